@@ -1,0 +1,36 @@
+-- The test that every number of a row is a code, place by place. Assumes nothing.
+use Prim.Native.Nat.{ℕ, zero, suc, _+_, _<_, _≤_}
+use mathlib.Core.Path.{_≡_, ap, _∙_}
+use mathlib.Core.Bool.{Bool, true, false, _&&_}
+use mathlib.Core.List.{List, [], _∷_}
+use native.Mathlib.Nat.{not-suc-le-zero, le-of-suc-le-suc}
+use lib.Dec.{ltb}
+use lib.ListN.{length, getD, drop}
+use Rattle.std.proofs.shelf.Lists.{drop-more, drop-all}
+use Rattle.std.proofs.shelf.Tests.{lt-ltb, le-ltb, ltb-true, and-parts}
+use Rattle.elimination.specs.Rows.{Codes, are-codes}
+
+module _ (q : ℕ) (row : List ℕ) (i : ℕ) where
+  step : i < length row → are-codes q (drop i row) ≡ (ltb (getD row i 0) q && are-codes q (drop (i + 1) row))
+  unfolding are-codes
+  step h = ap (are-codes q) (drop-more row i 0 h)
+
+  -- past a code, what is left decides
+  pub past-code : i < length row → getD row i 0 < q → are-codes q (drop i row) ≡ are-codes q (drop (i + 1) row)
+  past-code h l = step h ∙ ap (λ t. t && are-codes q (drop (i + 1) row)) (lt-ltb (getD row i 0) q l)
+
+  -- at a number that is no code, the test fails
+  pub at-no-code : i < length row → q ≤ getD row i 0 → are-codes q (drop i row) ≡ false
+  at-no-code h l = step h ∙ ap (λ t. t && are-codes q (drop (i + 1) row)) (le-ltb (getD row i 0) q l)
+
+  -- at the end it passes
+  pub at-end : length row ≤ i → are-codes q (drop i row) ≡ true
+  unfolding are-codes
+  at-end h = ap (are-codes q) (drop-all i row h)
+
+-- a row that passes has codes alone
+pub codes-from-test : (q : ℕ) (row : List ℕ) → are-codes q row ≡ true → Codes q row
+unfolding are-codes
+codes-from-test q [] t i h = absurd (not-suc-le-zero h)
+codes-from-test q (c ∷ cs) t zero h = ltb-true c q (and-parts (ltb c q) (are-codes q cs) t .0)
+codes-from-test q (c ∷ cs) t (suc i) h = codes-from-test q cs (and-parts (ltb c q) (are-codes q cs) t .1) i (le-of-suc-le-suc h)

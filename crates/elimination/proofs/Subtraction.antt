@@ -1,0 +1,46 @@
+-- What is left of a row of codes when a multiple of another is taken away. Assumes nothing.
+use Prim.Native.Nat.{ℕ, _<_}
+use mathlib.Core.Path.{_≡_, subst, sym}
+use mathlib.Core.Bool.{cond, _&&_}
+use mathlib.Core.List.{List}
+use lib.Dec.{eqb, ltb}
+use lib.ListN.{length, getD}
+use Rattle.std.specs.declared.result.Result.the-variants.{Ok, Err}
+use Rattle.std.proofs.shelf.Counted.{fill-by-all}
+use Rattle.std.proofs.shelf.Tests.{eqb-true, ltb-true, and-parts}
+use Rattle.faults.proofs.Passed.{passed}
+use Rattle.field.specs.Fields.{Ops, Lawful}
+use Rattle.field.specs.declared.fault.FieldFault.the-variants.{CodeTooLarge}
+use Rattle.elimination.specs.declared.fault.RowsFault.the-variants.{WrongLength, Field}
+use Rattle.elimination.specs.Rows.{Codes, are-codes, less-at, less-multiple, subtract-answer}
+use Rattle.elimination.proofs.Below.{codes-from-test}
+
+-- what an accepted subtraction has shown
+pub record Fit (q : ℕ) (t : List ℕ) (f : ℕ) (s : List ℕ) : Type 0 where
+  pub long : length s ≡ length t
+  pub target-codes : Codes q t
+  pub source-codes : Codes q s
+  pub factor-code : f < q
+
+pub accepted : (q : ℕ) (t : List ℕ) (f : ℕ) (s : List ℕ) → Ok (tt {0}) ≡ subtract-answer q t f s → Fit q t f s
+accepted q t f s ok =
+    let long = passed (eqb (length s) (length t)) tt (cond (are-codes q t && (are-codes q s && ltb f q)) (Ok tt) (Err (Field CodeTooLarge))) WrongLength ok in
+    let all = and-parts (are-codes q t) (are-codes q s && ltb f q) (passed (are-codes q t && (are-codes q s && ltb f q)) tt (Ok tt) (Field CodeTooLarge) (long .1) .0) in
+    let rest = and-parts (are-codes q s) (ltb f q) (all .1) in
+    record {
+      long = eqb-true (length s) (length t) (long .0);
+      target-codes = codes-from-test q t (all .0);
+      source-codes = codes-from-test q s (rest .0);
+      factor-code = ltb-true f q (rest .1);
+    }
+
+module _ (o : Ops) (laws : Lawful o) (t : List ℕ) (f : ℕ) (s : List ℕ) where
+  -- at each place it is a code
+  pub less-closed : f < o .size → Codes (o .size) t → Codes (o .size) s → length s ≡ length t → (i : ℕ) → i < length t → less-at o t f s i < o .size
+  less-closed hf ht hs long i h =
+      laws .difference-closed _ _ (ht i h) (laws .product-closed _ _ hf (hs i (subst (λ (n : ℕ). i < n) (sym long) h)))
+
+  -- a row that has the right code at every place is that row
+  pub all-less : (row : List ℕ) → length row ≡ length t → ((i : ℕ) → i < length t → getD row i 0 ≡ less-at o t f s i) → row ≡ less-multiple o t f s
+  unfolding less-multiple
+  all-less row long at = fill-by-all (less-at o t f s) row (length t) 0 long at

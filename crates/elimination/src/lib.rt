@@ -1,0 +1,4 @@
+// Row elimination over code slices, written once for every lawful field.
+mod codes;
+pub mod fault;
+pub mod rows;
