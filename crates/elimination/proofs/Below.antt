@@ -1,13 +1,14 @@
 -- The test that every number of a row is a code, place by place. Assumes nothing.
-use Prim.Native.Nat.{ℕ, zero, suc, _+_, _<_, _≤_}
-use mathlib.Core.Path.{_≡_, ap, _∙_}
+use Prim.Native.Nat.{ℕ, zero, suc, _+_, _<_, _≤_, suc-le-suc}
+use mathlib.Core.Path.{_≡_, refl, ap, _∙_}
 use mathlib.Core.Bool.{Bool, true, false, _&&_}
 use mathlib.Core.List.{List, [], _∷_}
 use native.Mathlib.Nat.{not-suc-le-zero, le-of-suc-le-suc}
+use native.Mathlib.Omega.{arith}
 use lib.Dec.{ltb}
 use lib.ListN.{length, getD, drop}
 use Rattle.std.proofs.shelf.Lists.{drop-more, drop-all}
-use Rattle.std.proofs.shelf.Tests.{lt-ltb, le-ltb, ltb-true, and-parts}
+use Rattle.std.proofs.shelf.Tests.{lt-ltb, le-ltb, ltb-true, and-parts, and-from}
 use Rattle.elimination.specs.Rows.{Codes, are-codes}
 
 module _ (q : ℕ) (row : List ℕ) (i : ℕ) where
@@ -34,3 +35,10 @@ unfolding are-codes
 codes-from-test q [] t i h = absurd (not-suc-le-zero h)
 codes-from-test q (c ∷ cs) t zero h = ltb-true c q (and-parts (ltb c q) (are-codes q cs) t .0)
 codes-from-test q (c ∷ cs) t (suc i) h = codes-from-test q cs (and-parts (ltb c q) (are-codes q cs) t .1) i (le-of-suc-le-suc h)
+
+-- and a row of codes passes
+pub test-from-codes : (q : ℕ) (row : List ℕ) → Codes q row → are-codes q row ≡ true
+unfolding are-codes
+test-from-codes q [] h = refl
+test-from-codes q (c ∷ cs) h =
+    and-from (ltb c q) (are-codes q cs) (lt-ltb c q (h 0 (omega arith))) (test-from-codes q cs (λ i l. h (suc i) (suc-le-suc l)))

@@ -1,4 +1,6 @@
-pub mod Laws
+pub mod Arithmetic
+pub mod Elements
+pub mod Answered
 pub mod Tests
 pub mod Products
 pub mod Remainders

@@ -15,7 +15,7 @@ use Rattle.std.proofs.shelf.Tests.{cases-lt, lt-ltb, le-ltb, cond-true, cond-fa
 use Rattle.field.specs.Fields.{Lawful}
 use Rattle.field.specs.Powers.{power}
 use Rattle.field.specs.Gf256.{bit, poly-product, reduced, gf256-product, gf256, antilog, IsLog}
-use Rattle.field.proofs.Laws.{inverse-unique}
+use Rattle.field.proofs.Elements.{inverse-unique}
 use Rattle.field.proofs.Products.{power-closed, power-add}
 use Rattle.field.proofs.Polynomials.{gf256-lawful, gf256-products, product-left, product-right, additive-zero}
 use Rattle.field.proofs.Tests.{all-below, passes}
