@@ -1,20 +1,17 @@
--- The tables of powers of 3 and of logarithms hold what they should, and a product is a sum of logarithms. Assumes nothing.
-use Prim.Native.Nat.{ℕ, zero, suc, _+_, _-_, _<_, _≤_}
+-- The tables of powers of 3 and of logarithms hold what they should, and logarithms add up to products. Assumes nothing.
+use Prim.Native.Nat.{ℕ, zero, suc, _+_, _-_, _<_}
 use mathlib.Core.Path.{_≡_, refl, sym, ap, ap₂, _∙_, subst}
 use mathlib.Core.Bool.{Bool, true, false, cond}
-use mathlib.Core.List.{List, [], _∷_, _++_, map}
-use mathlib.Core.Logic.{inl, inr}
+use mathlib.Core.List.{List, [], _∷_, map}
 use native.Mathlib.Nat.{add-zero, zero-add, add-suc, suc-add, not-suc-le-zero, le-of-suc-le-suc}
 use native.Mathlib.Omega.{arith}
-use lib.Dec.{T, eqb, ltb, eqb→eq, ltb→lt, lit<, lit≤}
-use lib.ListN.{length, getD, replicate}
+use lib.Dec.{T, eqb, ltb, ltb→lt, lit<}
+use lib.ListN.{length, getD}
 use Rattle.std.specs.Iters.{counting}
 use Rattle.std.proofs.shelf.Counted.{getD-map-counting}
-use Rattle.std.proofs.shelf.Lists.{getD-append-left, getD-append-right, getD-replicate}
-use Rattle.std.proofs.shelf.Tests.{cases-lt, lt-ltb, le-ltb, cond-true, cond-false, eqb-true}
-use Rattle.field.specs.Fields.{Lawful}
+use Rattle.std.proofs.shelf.Tests.{eqb-true}
 use Rattle.field.specs.Powers.{power}
-use Rattle.field.specs.Gf256.{bit, poly-product, reduced, gf256-product, gf256, antilog, IsLog}
+use Rattle.field.specs.Gf256.{bit, poly-product, reduced, gf256-product, gf256, power-of-3, IsLog}
 use Rattle.field.proofs.Elements.{inverse-unique}
 use Rattle.field.proofs.Products.{power-closed, power-add}
 use Rattle.field.proofs.Polynomials.{gf256-lawful, gf256-products, product-left, product-right, additive-zero}
@@ -30,26 +27,20 @@ unfolding powers
 length-powers p zero = refl
 length-powers p (suc n) = ap suc (length-powers (gf256-product p 3) n)
 
-getD-powers : (m n i : ℕ) → i < n → getD (powers (power gf256-product 3 m) n) i 0 ≡ power gf256-product 3 (m + i)
+getD-powers : (m n i : ℕ) → i < n → getD (powers (power-of-3 m) n) i 0 ≡ power-of-3 (m + i)
 unfolding powers power
 getD-powers m zero i h = absurd (not-suc-le-zero h)
-getD-powers m (suc n) zero h = ap (power gf256-product 3) (sym (add-zero m))
+getD-powers m (suc n) zero h = ap power-of-3 (sym (add-zero m))
 getD-powers m (suc n) (suc i) h =
-    getD-powers (suc m) n i (le-of-suc-le-suc h) ∙ ap (power gf256-product 3) (suc-add m i ∙ sym (add-suc m i))
+    getD-powers (suc m) n i (le-of-suc-le-suc h) ∙ ap power-of-3 (suc-add m i ∙ sym (add-suc m i))
 
-getD-powers-one : (n i : ℕ) → i < n → getD (powers 1 n) i 0 ≡ power gf256-product 3 i
+getD-powers-one : (n i : ℕ) → i < n → getD (powers 1 n) i 0 ≡ power-of-3 i
 unfolding power
-getD-powers-one n i h = getD-powers 0 n i h ∙ ap (power gf256-product 3) (zero-add i)
-
-antilog-below : (n : ℕ) → n < 509 → antilog n ≡ power gf256-product 3 n
-antilog-below n h = cond-true (ltb n 509) (power gf256-product 3 n) 0 (lt-ltb n 509 h)
-
-antilog-above : (n : ℕ) → 509 ≤ n → antilog n ≡ 0
-antilog-above n h = cond-false (ltb n 509) (power gf256-product 3 n) 0 (le-ltb n 509 h)
+getD-powers-one n i h = getD-powers 0 n i h ∙ ap power-of-3 (zero-add i)
 
 -- the table of powers
-pub table-exp : (xs : List ℕ) (i n : ℕ) → i ≡ n → xs ≡ powers 1 509 → n < 509 → getD xs i 0 ≡ antilog n
-table-exp xs i n e all h = ap₂ (λ ys k. getD ys k 0) all e ∙ getD-powers-one 509 n h ∙ sym (antilog-below n h)
+pub table-exp : (xs : List ℕ) (i n : ℕ) → i ≡ n → xs ≡ powers 1 509 → n < 509 → getD xs i 0 ≡ power-of-3 n
+table-exp xs i n e all h = ap₂ (λ ys k. getD ys k 0) all e ∙ getD-powers-one 509 n h
 
 -- the first place at which ps has a
 unfoldable pub place : List ℕ → ℕ → ℕ
@@ -70,18 +61,16 @@ placed : T (all-below (λ k. ltb (place (powers 1 255) (suc k)) 255) 255)
 unfolding place powers gf256-product poly-product reduced bit
 placed = tt
 
--- the table of logarithms: 509 for 0, then the place of each code among the powers
+-- the table of logarithms: for each code but 0, its place among the powers
 unfoldable pub log-table : List ℕ
-log-table = 509 ∷ map (place (powers 1 255)) (counting 1 255)
+log-table = 0 ∷ map (place (powers 1 255)) (counting 1 255)
 
-pub table-log : (xs : List ℕ) (i a : ℕ) → i ≡ a → xs ≡ log-table → a < 256 → IsLog a (getD xs i 0)
+pub table-log : (xs : List ℕ) (i a : ℕ) → i ≡ a → xs ≡ log-table → 0 < a → a < 256 → IsLog a (getD xs i 0)
 unfolding log-table
-table-log xs i zero e all h =
-    subst (IsLog 0) (sym (ap₂ (λ ys k. getD ys k 0) all e))
-    (record { power = antilog-above 509 (lit≤ tt); zero-log = λ _. refl; other-log = λ p. absurd (not-suc-le-zero p) })
-table-log xs i (suc k) e all h =
+table-log xs i zero e all p h = absurd (not-suc-le-zero p)
+table-log xs i (suc k) e all p h =
     subst (IsLog (suc k)) (sym (ap₂ (λ ys j. getD ys j 0) all e ∙ getD-map-counting (place (powers 1 255)) 1 255 k (suc k) 0 (omega arith) (omega arith)))
-    (record { power = antilog-below n (omega (arith, less)) ∙ there; zero-log = λ z. absurd (omega arith); other-log = λ _. less })
+    (record { is = there; least = less })
   where
     n : ℕ
     n = place (powers 1 255) (suc k)
@@ -89,49 +78,38 @@ table-log xs i (suc k) e all h =
     less : n < 255
     less = ltb→lt _ _ (passes (λ j. ltb (place (powers 1 255) (suc j)) 255) 255 placed k (omega arith))
 
-    there : power gf256-product 3 n ≡ suc k
+    there : power-of-3 n ≡ suc k
     there =
         sym (getD-powers-one 255 n less)
         ∙ getD-place (powers 1 255) (suc k) (subst (λ (m : ℕ). n < m) (sym (length-powers 1 255)) less)
 
-power-log : (a n : ℕ) → IsLog a n → n < 255 → power gf256-product 3 n ≡ a
-power-log a n l h = sym (antilog-below n (omega arith)) ∙ l .power
+-- the power of a sum of logarithms is the product
+pub product-by-logs : (a b m n : ℕ) → IsLog a m → IsLog b n → power-of-3 (m + n) ≡ gf256-product a b
+product-by-logs a b m n la lb = power-add 256 gf256-product gf256-products 3 m n (lit< tt) ∙ ap₂ gf256-product (la .is) (lb .is)
 
--- a product is the power at the sum of the logarithms
-pub product-by-logs : (a b m n : ℕ) → a < 256 → b < 256 → IsLog a m → IsLog b n → antilog (m + n) ≡ gf256-product a b
-product-by-logs zero b m n ha hb la lb =
-    antilog-above (m + n) (omega (arith, la .zero-log refl)) ∙ sym (additive-zero (λ x. gf256-product x b) (product-left b))
-product-by-logs (suc a) zero m n ha hb la lb =
-    antilog-above (m + n) (omega (arith, lb .zero-log refl)) ∙ sym (additive-zero (gf256-product (suc a)) (product-right (suc a)))
-product-by-logs (suc a) (suc b) m n ha hb la lb =
-    antilog-below (m + n) (omega (arith, m-less, n-less)) ∙ power-add 256 gf256-product gf256-products 3 m n (lit< tt)
-    ∙ ap₂ gf256-product (power-log (suc a) m la m-less) (power-log (suc b) n lb n-less)
-  where
-    m-less : m < 255
-    m-less = la .other-log (omega arith)
+-- a product with 0 is 0
+pub zero-product : (b : ℕ) → gf256-product 0 b ≡ 0
+zero-product b = additive-zero (λ x. gf256-product x b) (product-left b)
 
-    n-less : n < 255
-    n-less = lb .other-log (omega arith)
+pub product-zero : (a : ℕ) → gf256-product a 0 ≡ 0
+product-zero a = additive-zero (gf256-product a) (product-right a)
 
-power-255 : power gf256-product 3 255 ≡ 1
+power-255 : power-of-3 255 ≡ 1
 unfolding power gf256-product poly-product reduced bit
 power-255 = refl
 
--- an inverse is the power at 255 less the logarithm
-pub inverse-by-log : (a n : ℕ) → 0 < a → a < 256 → IsLog a n → antilog (255 - n) ≡ gf256 .inverse a
+-- the power at 255 less the logarithm is the inverse
+pub inverse-by-log : (a n : ℕ) → 0 < a → a < 256 → IsLog a n → power-of-3 (255 - n) ≡ gf256 .inverse a
 inverse-by-log a n p h l =
-    antilog-below (255 - n) (omega arith) ∙ inverse-unique gf256 gf256-lawful a y p h (power-closed 256 gf256-product gf256-products 3 (255 - n) (lit< tt)) one
+    inverse-unique gf256 gf256-lawful a y p h (power-closed 256 gf256-product gf256-products 3 (255 - n) (lit< tt)) one
   where
-    less : n < 255
-    less = l .other-log p
-
     y : ℕ
-    y = power gf256-product 3 (255 - n)
+    y = power-of-3 (255 - n)
 
     total : n + (255 - n) ≡ 255
-    total = omega (arith, less)
+    total = omega (arith, l .least)
 
     one : gf256-product a y ≡ 1
     one =
-        ap (λ x. gf256-product x y) (sym (power-log a n l less)) ∙ sym (power-add 256 gf256-product gf256-products 3 n (255 - n) (lit< tt))
-        ∙ ap (power gf256-product 3) total ∙ power-255
+        ap (λ x. gf256-product x y) (sym (l .is)) ∙ sym (power-add 256 gf256-product gf256-products 3 n (255 - n) (lit< tt))
+        ∙ ap power-of-3 total ∙ power-255

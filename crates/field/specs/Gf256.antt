@@ -1,10 +1,8 @@
 -- GF(256) as FIPS 197 has it: a code is a polynomial over bits, bit i the coefficient of x to the i, and products are
 -- reduced by x^8 + x^4 + x^3 + x + 1, which is 11B hex. Assumes nothing.
 use Prim.Native.Nat.{ℕ, zero, suc, _+_, _*_, _/_, _%_, _^_, _<_}
-use mathlib.Core.Bool.{cond}
 use mathlib.Core.Path.{_≡_}
 use lib.Bits.{bitXor}
-use lib.Dec.{ltb}
 use Rattle.field.specs.Fields.{Ops}
 use Rattle.field.specs.Powers.{power}
 
@@ -36,12 +34,11 @@ gf256 = record {
   inverse = λ a. power gf256-product a 254;
 }
 
--- the power n of 3, and 0 from 509 on, where no sum of two logarithms comes
-abbrev pub antilog : ℕ → ℕ
-antilog n = cond (ltb n 509) (power gf256-product 3 n) 0
+-- the power n of 3
+abbrev pub power-of-3 : ℕ → ℕ
+power-of-3 = power gf256-product 3
 
--- the logarithm of a code to the base 3: 509 for 0, and below 255 for every other
+-- n is the logarithm of a to the base 3
 pub record IsLog (a n : ℕ) : Type 0 where
-  pub power : antilog n ≡ a
-  pub zero-log : a ≡ 0 → n ≡ 509
-  pub other-log : 0 < a → n < 255
+  pub is : power-of-3 n ≡ a
+  pub least : n < 255

@@ -4,8 +4,8 @@ use crate::cases::check_differences;
 use crate::cases::check_inverses;
 use crate::cases::check_products;
 use crate::cases::check_sums;
-use field::residues::Gf2;
-use field::residues::Gf2Field;
+use field::gf2::Gf2;
+use field::gf2::Gf2Field;
 use std::test::*;
 
 // A difference is the same as the sum, since 1 + 1 = 0.

@@ -5,8 +5,8 @@ use crate::cases::check_differences;
 use crate::cases::check_inverses;
 use crate::cases::check_products;
 use crate::cases::check_sums;
-use field::residues::Modulo257;
-use field::residues::Modulo257Field;
+use field::modulo_257::Modulo257;
+use field::modulo_257::Modulo257Field;
 use std::test::*;
 
 const SUMS: [Case; 7] = [

@@ -9,12 +9,12 @@ use field::fault::FieldFault;
 use field::fault::FieldFaultDebug;
 use field::fault::FieldFaultPartialEq;
 use field::fault::FieldFaultTells;
+use field::gf2::Gf2;
+use field::gf2::Gf2Field;
 use field::gf256::Gf256;
 use field::gf256::Gf256Field;
-use field::residues::Gf2;
-use field::residues::Gf2Field;
-use field::residues::Modulo257;
-use field::residues::Modulo257Field;
+use field::modulo_257::Modulo257;
+use field::modulo_257::Modulo257Field;
 use std::test::*;
 
 const LAYERS: [(Layer, &str); 7] = [

@@ -12,12 +12,12 @@ use elimination::fault::RowsFault;
 use elimination::fault::RowsFaultTells;
 use faults::Fault;
 use field::Field;
+use field::gf2::Gf2;
+use field::gf2::Gf2Field;
 use field::gf256::Gf256;
 use field::gf256::Gf256Field;
-use field::residues::Gf2;
-use field::residues::Gf2Field;
-use field::residues::Modulo257;
-use field::residues::Modulo257Field;
+use field::modulo_257::Modulo257;
+use field::modulo_257::Modulo257Field;
 use std::io;
 
 // A frame: three coefficients, then four symbols.

@@ -1,11 +1,22 @@
-use mathlib.Core.Path.{_≡_, _∙_}
+use Prim.Native.Nat.{ℕ}
+use mathlib.Core.Path.{_≡_, ap, _∙_}
+use mathlib.Core.Logic.{inl, inr}
 use borrow.Author.Needs.{needs}
 use Rattle.field.specs.Gf256.{gf256-product}
-use Rattle.field.proofs.Logarithms.{product-by-logs}
+use Rattle.field.proofs.Logarithms.{product-by-logs, zero-product, product-zero}
 use Rattle.field.proofs.gf256.Gf256Field.product.Needs as need
+
+pub returns-then-a-eq0 : need.returns-then-a-eq0
+returns-then-a-eq0 c =
+    let e : gf256-product (c .args .a) (c .args .b) ≡ 0 =
+    elim (c .then-a-eq0 .either) [
+      | inl a ↦ ap (λ x. gf256-product x (c .args .b)) a ∙ zero-product (c .args .b)
+      | inr b ↦ ap (gf256-product (c .args .a)) (b .1) ∙ product-zero (c .args .a)
+    ] in
+    search needs
 
 pub returns : need.returns
 returns c =
     let e : c .exp .result ≡ gf256-product (c .args .a) (c .args .b) =
-    c .exp .ensures ∙ product-by-logs (c .args .a) (c .args .b) (c .log .result) (c .log-2 .result) (search needs) (search needs) (c .log .ensures) (c .log-2 .ensures) in
+    c .exp .ensures ∙ product-by-logs (c .args .a) (c .args .b) (c .log .result) (c .log-2 .result) (c .log .ensures) (c .log-2 .ensures) in
     search needs

@@ -6,7 +6,7 @@ use lib.Dec.{lit<}
 use Rattle.field.specs.Residues.{times-modulo}
 use Rattle.field.proofs.Products.{turns, turns-more}
 use Rattle.field.proofs.Remainders.{inverse-turns}
-use Rattle.field.proofs.residues.Modulo257.power_255.Needs as need
+use Rattle.field.proofs.modulo_257.power_255.Needs as need
 
 pub loop-turn-holds : need.loop-turn-holds
 loop-turn-holds c = (lit< tt, refl)
