@@ -14,17 +14,11 @@ use Rattle.field.specs.Fields.{Ops, Lawful}
 use Rattle.field.specs.declared.fault.FieldFault.the-variants.{CodeTooLarge}
 use Rattle.elimination.specs.declared.fault.RowsFault.{RowsFault}
 use Rattle.elimination.specs.declared.fault.RowsFault.the-variants.{WrongLength, Field}
-use Rattle.elimination.specs.Rows.{Codes, are-codes, less-at, less-multiple, subtract-answer}
+use Rattle.elimination.specs.Rows.{Codes, are-codes, Subtractable, less-at, less-multiple, subtract-answer}
 use Rattle.elimination.proofs.Below.{codes-from-test, test-from-codes}
 
--- what an accepted subtraction has shown
-pub record Fit (q : ℕ) (t : List ℕ) (f : ℕ) (s : List ℕ) : Type 0 where
-  pub long : length s ≡ length t
-  pub target-codes : Codes q t
-  pub source-codes : Codes q s
-  pub factor-code : f < q
-
-pub accepted : (q : ℕ) (t : List ℕ) (f : ℕ) (s : List ℕ) → Ok (tt {0}) ≡ subtract-answer q t f s → Fit q t f s
+-- what is accepted can be subtracted
+pub accepted : (q : ℕ) (t : List ℕ) (f : ℕ) (s : List ℕ) → Ok (tt {0}) ≡ subtract-answer q t f s → Subtractable q t f s
 accepted q t f s ok =
     let long = passed (eqb (length s) (length t)) tt (cond (are-codes q t && (are-codes q s && ltb f q)) (Ok tt) (Err (Field CodeTooLarge))) WrongLength ok in
     let all = and-parts (are-codes q t) (are-codes q s && ltb f q) (passed (are-codes q t && (are-codes q s && ltb f q)) tt (Ok tt) (Field CodeTooLarge) (long .1) .0) in
@@ -36,8 +30,8 @@ accepted q t f s ok =
       factor-code = ltb-true f q (rest .1);
     }
 
--- and rows that fit are accepted
-pub fit-accepted : (q : ℕ) (t : List ℕ) (f : ℕ) (s : List ℕ) → Fit q t f s → subtract-answer q t f s ≡ Ok (tt {0})
+-- and what can be subtracted is accepted
+pub fit-accepted : (q : ℕ) (t : List ℕ) (f : ℕ) (s : List ℕ) → Subtractable q t f s → subtract-answer q t f s ≡ Ok (tt {0})
 fit-accepted q t f s fit =
     cond-true (eqb (length s) (length t)) (cond (are-codes q t && (are-codes q s && ltb f q)) (Ok tt) (Err (Field CodeTooLarge))) (Err WrongLength)
     (eq-eqb (length s) (length t) (fit .long))
@@ -45,7 +39,7 @@ fit-accepted q t f s fit =
     (and-from (are-codes q t) (are-codes q s && ltb f q) (test-from-codes q t (fit .target-codes))
     (and-from (are-codes q s) (ltb f q) (test-from-codes q s (fit .source-codes)) (lt-ltb f q (fit .factor-code))))
 
-pub never-refused : (q : ℕ) (t : List ℕ) (f : ℕ) (s : List ℕ) (e : RowsFault) → Fit q t f s → Err e ≡ subtract-answer q t f s → ⊥
+pub never-refused : (q : ℕ) (t : List ℕ) (f : ℕ) (s : List ℕ) (e : RowsFault) → Subtractable q t f s → Err e ≡ subtract-answer q t f s → ⊥
 never-refused q t f s e fit no-way =
     let ok = fit-accepted q t f s fit in
     let z : _≡_ {A = ℕ} 0 1 = cc in

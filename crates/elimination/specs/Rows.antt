@@ -1,5 +1,6 @@
 -- Rows of codes, and what is left of one when a multiple of another is taken away. Assumes nothing.
 use Prim.Native.Nat.{ℕ, _<_}
+use mathlib.Core.Path.{_≡_}
 use mathlib.Core.Bool.{Bool, true, cond, _&&_}
 use mathlib.Core.List.{List, [], _∷_, map}
 use lib.Dec.{ltb, eqb}
@@ -33,6 +34,13 @@ less-at o t f s i = o .difference (getD t i 0) (o .product f (getD s i 0))
 -- the row t less f times the row s
 unfoldable pub less-multiple : Ops → List ℕ → ℕ → List ℕ → List ℕ
 less-multiple o t f s = map (less-at o t f s) (counting 0 (length t))
+
+-- rows and a factor that can be subtracted: one length, and codes throughout
+pub record Subtractable (q : ℕ) (t : List ℕ) (f : ℕ) (s : List ℕ) : Type 0 where
+  pub long : length s ≡ length t
+  pub target-codes : Codes q t
+  pub source-codes : Codes q s
+  pub factor-code : f < q
 
 -- rows of two lengths are refused first, then a number that is no code, of either row or the factor
 abbrev pub subtract-answer : ℕ → List ℕ → ℕ → List ℕ → Result (Unit {0}) RowsFault

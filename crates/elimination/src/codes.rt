@@ -21,7 +21,8 @@ pub fn check_codes(q: u32, row: &[u16]) -> Result<(), FieldFault>
 pub fn times<F: Field>(field: &F, a: u16, b: u16) -> u16
     requires a_code { ⌜ a < ops (now field) .size ⌝ }
     requires b_code { ⌜ b < ops (now field) .size ⌝ }
-    ensures { λ r. ⌜ r ≡ ops (now (field .entry)) .product a b ⌝ }
+    ensures value { λ r. ⌜ r ≡ ops (now (field .entry)) .product a b ⌝ }
+    ensures code { λ r. ⌜ r < ops (now (field .entry)) .size ⌝ }
 {
     field.product(a, b).unwrap()
 }
@@ -30,7 +31,8 @@ pub fn times<F: Field>(field: &F, a: u16, b: u16) -> u16
 pub fn less<F: Field>(field: &F, a: u16, b: u16) -> u16
     requires a_code { ⌜ a < ops (now field) .size ⌝ }
     requires b_code { ⌜ b < ops (now field) .size ⌝ }
-    ensures { λ r. ⌜ r ≡ ops (now (field .entry)) .difference a b ⌝ }
+    ensures value { λ r. ⌜ r ≡ ops (now (field .entry)) .difference a b ⌝ }
+    ensures code { λ r. ⌜ r < ops (now (field .entry)) .size ⌝ }
 {
     field.difference(a, b).unwrap()
 }

@@ -24,7 +24,7 @@ pub impl Fault for RowsFault as RowsFaultTells {
     fn refusal(&self) -> Refusal {
         match self {
             RowsFault::WrongLength => Refusal::plain(Layer::Rows, 4),
-            RowsFault::Field(fault) => fault.refusal(),
+            RowsFault::Field(lower) => lower.refusal(),
         }
     }
 }

@@ -1,9 +1,7 @@
 // Rows of codes: subtracting a multiple of one from another.
 ghost use mathlib.Core.Path.{_≡_};
-ghost use Prim.Native.Nat.{_<_};
-ghost use lib.ListN.{length};
 ghost use Rattle.std.specs.Vec.{made};
-ghost use Rattle.elimination.specs.Rows.{Codes, less-multiple, subtract-answer, subtract-after};
+ghost use Rattle.elimination.specs.Rows.{Codes, Subtractable, less-multiple, subtract-answer, subtract-after};
 use super::codes::check_codes;
 use super::codes::less;
 use super::codes::times;
@@ -30,7 +28,8 @@ pub fn subtract_multiple<F: Field>(
 
 // Refuses rows of two lengths, then a number that is no code.
 fn check_subtraction(q: u32, target: &[u16], factor: u16, source: &[u16]) -> Result<(), RowsFault>
-    ensures { λ r. ⌜ r ≡ subtract-answer q (now (target .entry)) factor (now (source .entry)) ⌝ }
+    ensures answer { λ r. ⌜ r ≡ subtract-answer q (now (target .entry)) factor (now (source .entry)) ⌝ }
+    ensures shown { λ r. ⌜ made r (λ _. Subtractable q (now (target .entry)) factor (now (source .entry))) ⌝ }
 {
     if source.len() != target.len() {
         return Err(RowsFault::WrongLength);
@@ -45,10 +44,7 @@ fn check_subtraction(q: u32, target: &[u16], factor: u16, source: &[u16]) -> Res
 
 // The same for rows of one length whose codes are known to be below q; codes stay codes.
 pub(crate) fn subtract_codes<F: Field>(field: &F, target: &mut [u16], factor: u16, source: &[u16])
-    requires long { ⌜ length (now source) ≡ length (now target) ⌝ }
-    requires target_codes { ⌜ Codes (ops (now field) .size) (now target) ⌝ }
-    requires source_codes { ⌜ Codes (ops (now field) .size) (now source) ⌝ }
-    requires factor_code { ⌜ factor < ops (now field) .size ⌝ }
+    requires { ⌜ Subtractable (ops (now field) .size) (now target) factor (now source) ⌝ }
     ensures after { λ _. ⌜ now (target .exit) ≡ less-multiple (ops (now (field .entry))) (now (target .entry)) factor (now (source .entry)) ⌝ }
     ensures codes { λ _. ⌜ Codes (ops (now (field .entry)) .size) (now (target .exit)) ⌝ }
 {

@@ -1,6 +1,8 @@
 // GF(256) as in FIPS 197, with the reducing polynomial 11B hex. Every code but 0 is a power of 3, so logarithms add up to
 // products.
-ghost use Rattle.field.specs.Gf256.{gf256};
+ghost use mathlib.Core.Path.{_≡_};
+ghost use Prim.Native.Nat.{_<_};
+ghost use Rattle.field.specs.Gf256.{gf256, gf256-product};
 use super::Field;
 use super::check_inverse;
 use super::check_two;
@@ -32,14 +34,32 @@ pub impl Field for Gf256 as Gf256Field {
 
     fn product(&self, a: u16, b: u16) -> Result<u16, FieldFault> {
         check_two(256, a, b)?;
-        if a == 0 || b == 0 {
-            return Ok(0);
-        }
-        Ok(exp(log(a) + log(b)))
+        Ok(times(a, b))
     }
 
     fn inverse(&self, a: u16) -> Result<u16, FieldFault> {
         check_inverse(256, a)?;
-        Ok(exp(255 - log(a)))
+        Ok(reciprocal(a))
     }
+}
+
+// The product of two codes.
+fn times(a: u16, b: u16) -> u16
+    requires a_code { ⌜ a < 256 ⌝ }
+    requires b_code { ⌜ b < 256 ⌝ }
+    ensures { λ r. ⌜ r ≡ gf256-product a b ⌝ }
+{
+    if a == 0 || b == 0 {
+        return 0;
+    }
+    exp(log(a) + log(b))
+}
+
+// The inverse of a code above 0.
+fn reciprocal(a: u16) -> u16
+    requires positive { ⌜ 0 < a ⌝ }
+    requires code { ⌜ a < 256 ⌝ }
+    ensures { λ r. ⌜ r ≡ gf256 .inverse a ⌝ }
+{
+    exp(255 - log(a))
 }

@@ -19,8 +19,8 @@ use Rattle.field.specs.Answers.{difference-answer, inverse-answer}
 use Rattle.field.proofs.Arithmetic.{Arithmetic, zero-add, mul-zero, sub-negative, add-sub, inv-mul}
 use Rattle.field.proofs.Answered.{answered-two, accepts-inverse}
 use Rattle.field.proofs.Elements.{Element, elements, not-none, inverse-code}
-use Rattle.elimination.specs.Rows.{Codes, less-at, less-multiple}
-use Rattle.elimination.proofs.Subtraction.{Fit, less-closed, getD-less, length-less}
+use Rattle.elimination.specs.Rows.{Codes, Subtractable, less-at, less-multiple}
+use Rattle.elimination.proofs.Subtraction.{less-closed, getD-less, length-less}
 use Rattle.repair.specs.Coding.{coded-at, coded-row, multiple, Packet, Sendable, Arrived}
 
 -- lists made by functions that agree at each place are equal
@@ -41,7 +41,7 @@ zeros (suc (suc (suc zero))) = refl
 zeros (suc (suc (suc (suc i)))) = refl
 
 -- what is left of a packet is a packet
-pub subtracted : (o : Ops) (laws : Lawful o) (t : List ℕ) (f : ℕ) (s : List ℕ) → Fit (o .size) t f s → length t ≡ 4 → Packet (o .size) (less-multiple o t f s)
+pub subtracted : (o : Ops) (laws : Lawful o) (t : List ℕ) (f : ℕ) (s : List ℕ) → Subtractable (o .size) t f s → length t ≡ 4 → Packet (o .size) (less-multiple o t f s)
 subtracted o laws t f s fit long = record {
   long = length-less o laws t f s ∙ long;
   codes = λ i h. let l : i < length t = subst (λ (n : ℕ). i < n) (length-less o laws t f s) h in
@@ -95,7 +95,7 @@ module _ (o : Ops) (laws : Lawful o) where
       ap (λ i. o .product i (o .product c x)) (sym (inverse-code o laws c hc p)) ∙ ap (λ e. e .0) (inv-mul k (c, hc) (x, hx) (not-none o laws c hc p))
 
   -- a row taken from nothing by a negative factor is the multiple
-  pub scaled-fit : (f n : ℕ) (row : List ℕ) → f < o .size → n ≡ o .difference 0 f → Packet (o .size) row → Fit (o .size) blank n row
+  pub scaled-fit : (f n : ℕ) (row : List ℕ) → f < o .size → n ≡ o .difference 0 f → Packet (o .size) row → Subtractable (o .size) blank n row
   scaled-fit f n row h e packet = record {
     long = packet .long;
     target-codes = λ i _. rw (zeros i) zero-code;
@@ -158,7 +158,7 @@ module _ (o : Ops) (laws : Lawful o) where
     pub negative : (k n : ℕ) → k < length ps → Ok n ≡ difference-answer o 0 (getD cs k 0) → n ≡ o .difference 0 (getD cs k 0)
     negative k n h e = answered-two (o .size) (o .difference) 0 (getD cs k 0) n zero-code (ok .coefficients k (omega (arith, ok .as-many))) e
 
-    adding-fit : (k : ℕ) (t : List ℕ) → k < length ps → Adding k t → Fit (o .size) t (o .difference 0 (getD cs k 0)) (getD ps k [])
+    adding-fit : (k : ℕ) (t : List ℕ) → k < length ps → Adding k t → Subtractable (o .size) t (o .difference 0 (getD cs k 0)) (getD ps k [])
     adding-fit k t h a = record {
       long = ok .packets k h .long ∙ sym (a .packet .long);
       target-codes = a .packet .codes;
@@ -176,8 +176,8 @@ module _ (o : Ops) (laws : Lawful o) where
           ∙ ap (o .sum (getD t j 0)) (sym (to-come-more k j h)) ∙ a .total j l;
     }
 
-    pub add-fit : (k n : ℕ) (t : List ℕ) → k < length ps → Adding k t → Ok n ≡ difference-answer o 0 (getD cs k 0) → Fit (o .size) t n (getD ps k [])
-    add-fit k n t h a e = subst (λ (m : ℕ). Fit (o .size) t m (getD ps k [])) (sym (negative k n h e)) (adding-fit k t h a)
+    pub add-fit : (k n : ℕ) (t : List ℕ) → k < length ps → Adding k t → Ok n ≡ difference-answer o 0 (getD cs k 0) → Subtractable (o .size) t n (getD ps k [])
+    add-fit k n t h a e = subst (λ (m : ℕ). Subtractable (o .size) t m (getD ps k [])) (sym (negative k n h e)) (adding-fit k t h a)
 
     pub add-turn : (k n : ℕ) (t t′ : List ℕ) → k < length ps → Adding k t → Ok n ≡ difference-answer o 0 (getD cs k 0) → t′ ≡ less-multiple o t n (getD ps k [])
         → Adding (k + 1) t′
@@ -241,7 +241,7 @@ module _ (o : Ops) (laws : Lawful o) where
         within-rest : (j : ℕ) → j < 4 → j < length rest
         within-rest j h = subst (λ (n : ℕ). j < n) (sym (t .packet .long)) h
 
-        pub taking-fit : k < length ps → Fit (o .size) rest (getD cs k 0) (getD ps k [])
+        pub taking-fit : k < length ps → Subtractable (o .size) rest (getD cs k 0) (getD ps k [])
         taking-fit h = record {
           long = ok .packets k h .long ∙ sym (t .packet .long);
           target-codes = t .packet .codes;
@@ -330,8 +330,8 @@ module _ (o : Ops) (laws : Lawful o) where
 
       module _ (k c : ℕ) (rest : List ℕ) (t : Taking k c rest) (h : k < length ps) where
         -- a packet that arrived fits, and is taken out
-        pub some-fit : (p : List ℕ) → getD received k None ≡ Some p → Fit (o .size) rest (getD cs k 0) p
-        some-fit p e = subst (Fit (o .size) rest (getD cs k 0)) (sym (arrived-some k None p h e .1)) (taking-fit k c rest t h)
+        pub some-fit : (p : List ℕ) → getD received k None ≡ Some p → Subtractable (o .size) rest (getD cs k 0) p
+        some-fit p e = subst (Subtractable (o .size) rest (getD cs k 0)) (sym (arrived-some k None p h e .1)) (taking-fit k c rest t h)
 
         pub some-turn : (p rest′ : List ℕ) → getD received k None ≡ Some p → rest′ ≡ less-multiple o rest (getD cs k 0) p → Taking (k + 1) c rest′
         some-turn p rest′ e after =

@@ -2,7 +2,6 @@ use Prim.Native.Nat.{ℕ, _<_}
 use mathlib.Core.Path.{_≡_, subst, sym}
 use native.Mathlib.Omega.{arith}
 use native.Mathlib.Nat.{le-refl}
-use borrow.Author.Needs.{needs}
 use lib.ListN.{length}
 use Rattle.elimination.proofs.Subtraction.{less-closed, all-less}
 use Rattle.elimination.proofs.rows.subtract_codes.Needs as need
@@ -10,11 +9,10 @@ use Rattle.elimination.proofs.rows.subtract_codes.Needs as need
 pub less-requires : need.less-requires
 less-requires g c κs =
     let o = g .F·Field .ops (c .args .field .now) in
-    let laws = g .F·Field·met .lawful (c .args .field .now) in
     let before : c .loop-i .i < length (c .args .target .now) = omega arith in
     record {
       a-code = subst (λ (x : ℕ). x < o .size) (sym (c .loop-i .inv .1 (c .loop-i .i) (le-refl _))) (c .pre .target-codes (c .loop-i .i) before);
-      b-code = subst (λ (x : ℕ). x < o .size) (sym (c .times-product .ensures)) (laws .product-closed _ _ (c .pre .factor-code) (c .pre .source-codes (c .loop-i .i) (omega arith)));
+      b-code = c .times-product .ensures .code;
     }
 
 pub returns : need.returns
