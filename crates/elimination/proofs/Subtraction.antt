@@ -30,6 +30,9 @@ accepted q t f s ok =
       factor-code = ltb-true f q (rest .1);
     }
 
+pub accepted-at : {q p : ℕ} {t : List ℕ} {f : ℕ} {s : List ℕ} → q ≡ p → Ok (tt {0}) ≡ subtract-answer q t f s → Subtractable p t f s
+accepted-at {q} {p} {t} {f} {s} e ok = subst (λ (n : ℕ). Subtractable n t f s) e (accepted q t f s ok)
+
 -- and what can be subtracted is accepted
 pub fit-accepted : (q : ℕ) (t : List ℕ) (f : ℕ) (s : List ℕ) → Subtractable q t f s → subtract-answer q t f s ≡ Ok (tt {0})
 fit-accepted q t f s fit =

@@ -28,8 +28,7 @@ pub fn subtract_multiple<F: Field>(
 
 // Refuses rows of two lengths, then a number that is no code.
 fn check_subtraction(q: u32, target: &[u16], factor: u16, source: &[u16]) -> Result<(), RowsFault>
-    ensures answer { λ r. ⌜ r ≡ subtract-answer q (now (target .entry)) factor (now (source .entry)) ⌝ }
-    ensures shown { λ r. ⌜ made r (λ _. Subtractable q (now (target .entry)) factor (now (source .entry))) ⌝ }
+    ensures { λ r. ⌜ r ≡ subtract-answer q (now (target .entry)) factor (now (source .entry)) ⌝ }
 {
     if source.len() != target.len() {
         return Err(RowsFault::WrongLength);
