@@ -6,7 +6,7 @@ use field::Field;
 use field::fault::FieldFault;
 
 // Refuses a row that has a code not below q.
-pub fn check_codes(q: u32, row: &[u16]) -> Result<(), FieldFault>
+pub(crate) fn check_codes(q: u32, row: &[u16]) -> Result<(), FieldFault>
     ensures { λ r. ⌜ r ≡ codes-answer q (now (row .entry)) ⌝ }
 {
     for code in row {
@@ -18,7 +18,7 @@ pub fn check_codes(q: u32, row: &[u16]) -> Result<(), FieldFault>
 }
 
 // The product of two codes.
-pub fn times<F: Field>(field: &F, a: u16, b: u16) -> u16
+pub(crate) fn times<F: Field>(field: &F, a: u16, b: u16) -> u16
     requires a_code { ⌜ a < ops (now field) .size ⌝ }
     requires b_code { ⌜ b < ops (now field) .size ⌝ }
     ensures value { λ r. ⌜ r ≡ ops (now (field .entry)) .product a b ⌝ }
@@ -28,7 +28,7 @@ pub fn times<F: Field>(field: &F, a: u16, b: u16) -> u16
 }
 
 // The difference of two codes.
-pub fn less<F: Field>(field: &F, a: u16, b: u16) -> u16
+pub(crate) fn less<F: Field>(field: &F, a: u16, b: u16) -> u16
     requires a_code { ⌜ a < ops (now field) .size ⌝ }
     requires b_code { ⌜ b < ops (now field) .size ⌝ }
     ensures value { λ r. ⌜ r ≡ ops (now (field .entry)) .difference a b ⌝ }

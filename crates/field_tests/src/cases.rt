@@ -5,19 +5,19 @@ use field::fault::FieldFaultPartialEq;
 use std::test::*;
 
 // Two codes, and the answer for them in this order.
-pub type Case = (u16, u16, u16);
+pub(crate) type Case = (u16, u16, u16);
 
 // A code and its inverse.
-pub type Inverse = (u16, u16);
+pub(crate) type Inverse = (u16, u16);
 
-pub fn check_sums<F: Field>(field: &F, cases: &[Case]) -> Result<(), Fail> {
+pub(crate) fn check_sums<F: Field>(field: &F, cases: &[Case]) -> Result<(), Fail> {
     for &(a, b, answer) in cases {
         check_eq(field.sum(a, b), Ok(answer)).note(format_args!("{a} + {b}"))?;
     }
     Ok(())
 }
 
-pub fn check_differences<F: Field>(field: &F, cases: &[Case]) -> Result<(), Fail> {
+pub(crate) fn check_differences<F: Field>(field: &F, cases: &[Case]) -> Result<(), Fail> {
     for &(a, b, answer) in cases {
         check_eq(field.difference(a, b), Ok(answer)).note(format_args!("{a} - {b}"))?;
     }
@@ -25,7 +25,7 @@ pub fn check_differences<F: Field>(field: &F, cases: &[Case]) -> Result<(), Fail
 }
 
 // Each product is asked for in both orders.
-pub fn check_products<F: Field>(field: &F, cases: &[Case]) -> Result<(), Fail> {
+pub(crate) fn check_products<F: Field>(field: &F, cases: &[Case]) -> Result<(), Fail> {
     for &(a, b, answer) in cases {
         check_eq(field.product(a, b), Ok(answer)).note(format_args!("{a} * {b}"))?;
         check_eq(field.product(b, a), Ok(answer)).note(format_args!("{b} * {a}"))?;
@@ -34,7 +34,7 @@ pub fn check_products<F: Field>(field: &F, cases: &[Case]) -> Result<(), Fail> {
 }
 
 // Each pair is asked for both ways.
-pub fn check_inverses<F: Field>(field: &F, cases: &[Inverse]) -> Result<(), Fail> {
+pub(crate) fn check_inverses<F: Field>(field: &F, cases: &[Inverse]) -> Result<(), Fail> {
     for &(a, b) in cases {
         check_eq(field.inverse(a), Ok(b)).note(format_args!("the inverse of {a}"))?;
         check_eq(field.inverse(b), Ok(a)).note(format_args!("the inverse of {b}"))?;

@@ -4,7 +4,7 @@ ghost use Prim.Native.Nat.{_<_};
 ghost use Rattle.field.specs.Gf256.{IsLog, power-of-3};
 
 // The power of 3 that a code is; 0 is none.
-pub fn log(a: u16) -> u16
+pub(crate) fn log(a: u16) -> u16
     requires positive { ⌜ 0 < a ⌝ }
     requires code { ⌜ a < 256 ⌝ }
     ensures { λ r. ⌜ IsLog a r ⌝ }
@@ -13,7 +13,7 @@ pub fn log(a: u16) -> u16
 }
 
 // The power n of 3, for a sum of two logarithms.
-pub fn exp(n: u16) -> u16
+pub(crate) fn exp(n: u16) -> u16
     requires { ⌜ n < 509 ⌝ }
     ensures { λ r. ⌜ r ≡ power-of-3 n ⌝ }
 {
