@@ -9,7 +9,8 @@ use lib.Dec.{ltb}
 use lib.ListN.{length, getD, drop}
 use Rattle.std.proofs.shelf.Lists.{drop-more, drop-all}
 use Rattle.std.proofs.shelf.Tests.{lt-ltb, le-ltb, ltb-true, and-parts, and-from}
-use Rattle.elimination.specs.Rows.{Codes, are-codes}
+use Rattle.algebra.specs.Frames.{Codes}
+use Rattle.elimination.specs.Rows.{are-codes}
 
 module _ (q : ℕ) (row : List ℕ) (i : ℕ) where
   step : i < length row → are-codes q (drop i row) ≡ (ltb (getD row i 0) q && are-codes q (drop (i + 1) row))

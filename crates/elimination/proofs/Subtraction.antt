@@ -14,7 +14,8 @@ use Rattle.field.specs.Fields.{Ops, Lawful}
 use Rattle.field.specs.declared.fault.FieldFault.the-variants.{CodeTooLarge}
 use Rattle.elimination.specs.declared.fault.RowsFault.{RowsFault}
 use Rattle.elimination.specs.declared.fault.RowsFault.the-variants.{WrongLength, Field}
-use Rattle.elimination.specs.Rows.{Codes, are-codes, Subtractable, less-at, less-multiple, subtract-answer}
+use Rattle.algebra.specs.Frames.{Codes}
+use Rattle.elimination.specs.Rows.{are-codes, Subtractable, less-at, less-multiple, subtract-answer}
 use Rattle.elimination.proofs.Below.{codes-from-test, test-from-codes}
 
 -- what is accepted can be subtracted

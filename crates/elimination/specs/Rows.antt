@@ -8,17 +8,14 @@ use lib.ListN.{length, getD}
 use Rattle.std.specs.Iters.{counting}
 use Rattle.std.specs.declared.result.Result.{Result}
 use Rattle.std.specs.declared.result.Result.the-variants.{Ok, Err}
+use Rattle.algebra.specs.Frames.{Codes}
 use Rattle.field.specs.Fields.{Ops}
 use Rattle.field.specs.declared.fault.FieldFault.{FieldFault}
 use Rattle.field.specs.declared.fault.FieldFault.the-variants.{CodeTooLarge}
 use Rattle.elimination.specs.declared.fault.RowsFault.{RowsFault}
 use Rattle.elimination.specs.declared.fault.RowsFault.the-variants.{WrongLength, Field}
 
--- every number of a row is a code, below q
-abbrev pub Codes : ℕ → List ℕ → Type 0
-Codes q row = (i : ℕ) → i < length row → getD row i 0 < q
-
--- the same as a test
+-- every number of a row is a code, below q, as a test
 unfoldable pub are-codes : ℕ → List ℕ → Bool
 are-codes q [] = true
 are-codes q (c ∷ cs) = ltb c q && are-codes q cs

@@ -1,7 +1,8 @@
 // Rows of codes: subtracting a multiple of one from another.
 ghost use mathlib.Core.Path.{_≡_};
 ghost use Rattle.std.specs.Vec.{made};
-ghost use Rattle.elimination.specs.Rows.{Codes, Subtractable, less-multiple, subtract-answer, subtract-after};
+ghost use Rattle.algebra.specs.Frames.{Codes};
+ghost use Rattle.elimination.specs.Rows.{Subtractable, less-multiple, subtract-answer, subtract-after};
 use super::codes::check_codes;
 use super::codes::less;
 use super::codes::times;

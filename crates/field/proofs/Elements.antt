@@ -47,6 +47,7 @@ module _ (o : Ops) (laws : Lawful o) where
     mul-add = λ a b c. same-code (laws .distributes (a .0) (b .0) (c .0) (a .1) (b .1) (c .1));
     sub-add = λ a b. same-code (laws .difference-sum (a .0) (b .0) (a .1) (b .1));
     mul-inv = λ a ne. same-code (unit (a .0) (a .1) ne);
+    apart = λ e. absurd (omega (arith, ap (λ x. x .0) e));
   }
 
   -- a code above 0 is not the element 0, and its inverse is the field's

@@ -19,7 +19,8 @@ use Rattle.field.specs.Answers.{difference-answer, inverse-answer}
 use Rattle.field.proofs.Arithmetic.{Arithmetic, zero-add, mul-zero, sub-negative, add-sub, inv-mul}
 use Rattle.field.proofs.Answered.{answered-two, accepts-inverse}
 use Rattle.field.proofs.Elements.{Element, elements, not-none, inverse-code}
-use Rattle.elimination.specs.Rows.{Codes, Subtractable, less-at, less-multiple}
+use Rattle.algebra.specs.Frames.{Codes}
+use Rattle.elimination.specs.Rows.{Subtractable, less-at, less-multiple}
 use Rattle.elimination.proofs.Subtraction.{less-closed, getD-less, length-less}
 use Rattle.repair.specs.Coding.{coded-at, coded-row, multiple, Packet, Sendable, Arrived}
 

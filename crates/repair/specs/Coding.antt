@@ -9,7 +9,7 @@ use Rattle.std.specs.declared.option.Option.the-variants.{Some, None}
 use Rattle.std.specs.declared.result.Result.{Result}
 use Rattle.std.specs.declared.result.Result.the-variants.{Ok}
 use Rattle.field.specs.Fields.{Ops}
-use Rattle.elimination.specs.Rows.{Codes}
+use Rattle.algebra.specs.Frames.{Codes}
 use Rattle.elimination.specs.declared.fault.RowsFault.{RowsFault}
 
 -- the coded sum at one place: each coefficient times its packet's symbol there, summed
