@@ -1,23 +1,27 @@
 -- The theorems on reduced forms, from elements to codes. Assumes nothing.
-use Prim.Native.Nat.{ℕ, _+_, _<_}
+use Prim.Native.Nat.{ℕ, zero, suc, _+_, _<_, _≤_, suc-le-suc}
 use mathlib.Core.Path.{_≡_, refl, sym, ap, ap₂, _∙_, subst}
 use mathlib.Core.Logic.{inl, inr}
-use mathlib.Core.List.{List, [], map}
+use mathlib.Core.List.{List, [], _∷_, map}
+use native.Mathlib.Nat.{not-suc-le-zero, le-of-suc-le-suc}
+use native.Mathlib.Omega.{arith}
 use lib.ListN.{length, getD}
-use Rattle.std.proofs.shelf.Tests.{cases-eq}
-use Rattle.std.proofs.shelf.Lists.{ext-getD, getD-map, length-map}
+use Rattle.std.proofs.shelf.Tests.{cases-eq, cases-lt}
+use Rattle.std.proofs.shelf.Lists.{ext-getD, getD-map, getD-past, length-map}
 use Rattle.field.specs.Fields.{Ops, Lawful}
-use Rattle.field.proofs.Elements.{Element, same-code}
-use Rattle.algebra.specs.Frames.{code-at, Codes, Frame, InSpan}
-use Rattle.algebra.specs.Rows.{row-at, ReducedForm, rest-at}
+use Rattle.field.proofs.Arithmetic.{zero-mul, mul-zero, one-mul, sub-self}
+use Rattle.field.proofs.Elements.{Element, same-code, inverse-code}
+use Rattle.algebra.specs.Frames.{code-at, Codes, Frame, Frames, InSpan}
+use Rattle.algebra.specs.Rows.{row-at, ReducedForm, rest-at, scaled-at, Inserted}
 use Rattle.algebra.specs.Packets as packets
 use Rattle.algebra.specs.Packets.{Seen, AgreesAll, Bare}
-use Rattle.algebra.specs.Theorems.{OneForm, SeenRows, NothingLeft, DeterminedRows, PacketInRow, SomeContents}
-use Rattle.algebra.proofs.Vectors.{Vector, All, all-from, all-at}
-use Rattle.algebra.proofs.Tables.{Table, Reduced, image, Fixed, SeenIn, seen-row, row-seen, one-table, row-fixed}
-use Rattle.algebra.proofs.Insertion.{Stands, rest, fixed-rest, rest-fixed}
-use Rattle.algebra.proofs.Contents.{Contents, Agrees, Determined, own, own-agrees, agrees-span, agrees-frames, bare-packet, determined-unit, bare-determined, unit, unit-same, unit-other}
-use Rattle.algebra.proofs.Bridge.{k, table, vector, vector-code, summed-code, span-up, span-down, row-code, reduced-up, stands-up}
+use Rattle.algebra.specs.Theorems.{OneForm, SeenRows, NothingLeft, DeterminedRows, PacketInRow, SomeContents, EmptyForm, SameForm, InsertedForm, AcceptedFrames}
+use Rattle.algebra.proofs.Sums.{summed-none}
+use Rattle.algebra.proofs.Vectors.{Vector, same, minus, All, all-from, all-at}
+use Rattle.algebra.proofs.Tables.{Table, Reduced, image, Fixed, SeenIn, seen-row, row-seen, one-table, row-fixed, image-fixed}
+use Rattle.algebra.proofs.Insertion.{Stands, stands-none, stands-same, rest, fixed-rest, rest-fixed, scaled, reduced-inserted, stands-inserted}
+use Rattle.algebra.proofs.Contents.{Contents, Agrees, agrees-linear, Determined, own, own-agrees, agrees-span, agrees-frames, bare-packet, determined-unit, bare-determined, unit, unit-same, unit-other}
+use Rattle.algebra.proofs.Bridge.{k, table, vector, vector-code, summed-code, span-up, span-down, row-code, reduced-up, reduced-down, stands-up, stands-down}
 
 module _ (o : Ops) (laws : Lawful o) (n l : ℕ) (fs rs : List (List ℕ)) (form : ReducedForm o n l fs rs) where
   pub reduced : Reduced (k o laws) n (table o laws rs)
@@ -184,3 +188,149 @@ one-form o laws n l fs rs us form other =
         (λ v fixed. stands o laws n l fs rs form .up v (stands o laws n l fs us other .down v fixed))
         m (subst (λ (x : ℕ). m < x) (form .reduced .tall) h) i)
         ∙ at o laws n l fs us other m i)
+
+pub empty-form : EmptyForm
+empty-form o laws n l rs shaped tall blank =
+    let t = table o laws rs in
+    let zeros : (m i : ℕ) → t m i ≡ k o laws .zero = λ m i. same-code (row-code o laws n l rs shaped m i ∙ blank m i) in
+    let r : Reduced (k o laws) n t = record { lead = λ m h. inr (zeros m); before = λ m i h a. zeros m i; column = λ j m hj hm e ne. zeros j m } in
+    record {
+      frames = λ m h. absurd (not-suc-le-zero h);
+      rows-frames = shaped;
+      reduced = reduced-down o laws n l rs shaped tall r;
+      same-span = stands-down o laws n l rs shaped tall r [] (λ m h. absurd (not-suc-le-zero h)) (stands-none (k o laws) n t zeros);
+    }
+
+-- one frame more before others
+more-frames : (q w : ℕ) (f : List ℕ) (fs : List (List ℕ)) → Frame q w f → Frames q w fs → Frames q w (f ∷ fs)
+more-frames q w f fs frame framed zero h = frame
+more-frames q w f fs frame framed (suc m) h = framed m (le-of-suc-le-suc h)
+
+pub same-form : SameForm
+same-form o laws n l fs rs form f frame left =
+    let r = reduced o laws n l fs rs form in
+    let code = rest-code o laws n l fs rs form f (frame .codes) in
+    let framed = more-frames (o .size) (n + l) f fs frame (form .frames) in
+    record {
+      frames = framed;
+      rows-frames = form .rows-frames;
+      reduced = form .reduced;
+      same-span = stands-down o laws n l rs (form .rows-frames) (form .reduced .tall) r (f ∷ fs) framed
+          (stands-same (k o laws) n (table o laws rs) r (vector o laws f) (map (vector o laws) fs) (stands o laws n l fs rs form)
+          (rest-fixed (k o laws) n (table o laws rs) r (vector o laws f) (λ i. same-code (code i ∙ left i))));
+    }
+
+-- past its width a row is 0
+past-row : (o : Ops) (laws : Lawful o) (n l : ℕ) (xs : List (List ℕ)) → Frames (o .size) (n + l) xs → length xs ≡ n → (m j : ℕ) → m < n → n + l ≤ j
+    → table o laws xs m j ≡ k o laws .zero
+past-row o laws n l xs shaped tall m j hm hj =
+    same-code (row-code o laws n l xs shaped m j ∙ getD-past (getD xs m []) j 0 (subst (λ (w : ℕ). w ≤ j) (sym (shaped m (subst (λ (x : ℕ). m < x) (sym tall) hm) .long)) hj))
+
+module _ (o : Ops) (laws : Lawful o) (n l : ℕ) (fs rs : List (List ℕ)) (form : ReducedForm o n l fs rs) (f : List ℕ) (frame : Frame (o .size) (n + l) f)
+    (a : ℕ) (ha : a < n) (some : 0 < rest-at o n rs f a) (low : (i : ℕ) → i < a → rest-at o n rs f i ≡ 0) (us : List (List ℕ)) (put : Inserted o n l rs f a us) where
+  left : (i : ℕ) → rest (k o laws) n (table o laws rs) (reduced o laws n l fs rs form) (vector o laws f) i .0 ≡ rest-at o n rs f i
+  left = rest-code o laws n l fs rs form f (frame .codes)
+
+  remains : rest (k o laws) n (table o laws rs) (reduced o laws n l fs rs form) (vector o laws f) a ≡ k o laws .zero → ⊥
+  remains e = absurd (omega (arith, sym (left a) ∙ ap (λ x. x .0) e))
+
+  below : (i : ℕ) → i < a → rest (k o laws) n (table o laws rs) (reduced o laws n l fs rs form) (vector o laws f) i ≡ k o laws .zero
+  below i h = same-code (left i ∙ low i h)
+
+  new-row : Vector (Element o)
+  new-row = scaled (k o laws) n (table o laws rs) (reduced o laws n l fs rs form) (vector o laws f) a ha remains below
+
+  new-code : (i : ℕ) → new-row i .0 ≡ scaled-at o n rs f a i
+  unfolding new-row
+  new-code i =
+      ap₂ (o .product)
+      (inverse-code o laws (rest (k o laws) n (table o laws rs) (reduced o laws n l fs rs form) (vector o laws f) a .0) (rest (k o laws) n (table o laws rs) (reduced o laws n l fs rs form) (vector o laws f) a .1)
+      (subst (λ (x : ℕ). 0 < x) (sym (left a)) some)
+      ∙ ap (o .inverse) (left a))
+      (left i)
+
+  -- past the width nothing is left
+  past-rest : (i : ℕ) → n + l ≤ i → rest (k o laws) n (table o laws rs) (reduced o laws n l fs rs form) (vector o laws f) i ≡ k o laws .zero
+  unfolding image
+  past-rest i h =
+      ap₂ (k o laws .sub) (same-code (vector-code o laws f (frame .codes) i ∙ getD-past f i 0 (subst (λ (w : ℕ). w ≤ i) (sym (frame .long)) h)))
+      (summed-none (k o laws) n (λ m. k o laws .mul (vector o laws f m) (table o laws rs m i)) (λ m hm. ap (k o laws .mul (vector o laws f m)) (past-row o laws n l rs (form .rows-frames) (form .reduced .tall) m i hm h) ∙ mul-zero (k o laws) (vector o laws f m)))
+      ∙ sub-self (k o laws) (k o laws .zero)
+
+  none-past : (i : ℕ) → n + l ≤ i → new-row i ≡ k o laws .zero
+  unfolding new-row
+  none-past i g = ap (k o laws .mul (k o laws .inv (rest (k o laws) n (table o laws rs) (reduced o laws n l fs rs form) (vector o laws f) a))) (past-rest i g) ∙ mul-zero (k o laws) _
+
+  -- the row put in, and the others
+  new-all : (i : ℕ) → table o laws us a i ≡ new-row i
+  unfolding new-row
+  new-all i =
+      elim (cases-lt i (n + l)) [
+        | inl h ↦ same-code (row-code o laws n l us (put .rows-frames) a i ∙ put .new i h ∙ sym (new-code i))
+        | inr g ↦ past-row o laws n l us (put .rows-frames) (put .tall) a i ha g ∙ sym (none-past i g)
+      ]
+
+  old-all : (m : ℕ) → m < n → (m ≡ a → ⊥) → (i : ℕ) → table o laws us m i ≡ k o laws .sub (table o laws rs m i) (k o laws .mul (table o laws rs m a) (new-row i))
+  unfolding new-row
+  old-all m hm ne i =
+      elim (cases-lt i (n + l)) [
+        | inl h ↦ same-code (row-code o laws n l us (put .rows-frames) m i ∙ put .old m hm ne i h
+            ∙ sym (ap₂ (o .difference) (at o laws n l fs rs form m i) (ap₂ (o .product) (at o laws n l fs rs form m a) (new-code i))))
+        | inr g ↦ past-row o laws n l us (put .rows-frames) (put .tall) m i hm g
+            ∙ sym (ap₂ (λ x y. k o laws .sub x (k o laws .mul (table o laws rs m a) y)) (past-row o laws n l rs (form .rows-frames) (form .reduced .tall) m i hm g) (none-past i g)
+            ∙ ap (k o laws .sub (k o laws .zero)) (mul-zero (k o laws) (table o laws rs m a)) ∙ sub-self (k o laws) (k o laws .zero))
+      ]
+
+  inserted : ReducedForm o n l (f ∷ fs) us
+  unfolding new-row
+  inserted =
+      let t = table o laws rs in
+      let u = table o laws us in
+      let r = reduced o laws n l fs rs form in
+      let after = reduced-inserted (k o laws) n t r (vector o laws f) a ha remains below u new-all old-all in
+      let framed = more-frames (o .size) (n + l) f fs frame (form .frames) in
+      record {
+        frames = framed;
+        rows-frames = put .rows-frames;
+        reduced = reduced-down o laws n l us (put .rows-frames) (put .tall) after;
+        same-span = stands-down o laws n l us (put .rows-frames) (put .tall) after (f ∷ fs) framed
+            (stands-inserted (k o laws) n t r (vector o laws f) a ha remains below u new-all old-all (map (vector o laws) fs) (stands o laws n l fs rs form));
+      }
+
+pub inserted-form : InsertedForm
+inserted-form = inserted
+
+module _ (o : Ops) (laws : Lawful o) (n l : ℕ) (fs rs : List (List ℕ)) (form : ReducedForm o n l fs rs) (f : List ℕ) (frame : Frame (o .size) (n + l) f)
+    (bare : (i : ℕ) → i < n → rest-at o n rs f i ≡ 0) (p : packets.Contents (o .size)) (agree : AgreesAll o n l p (f ∷ fs)) where
+  remainder : Vector (Element o)
+  remainder = rest (k o laws) n (table o laws rs) (reduced o laws n l fs rs form) (vector o laws f)
+
+  remainder-code : (i : ℕ) → remainder i .0 ≡ rest-at o n rs f i
+  unfolding remainder
+  remainder-code = rest-code o laws n l fs rs form f (frame .codes)
+
+  -- what is left agrees with the contents too
+  remainder-agrees : Agrees (k o laws) n l (contents o laws n l fs rs form p) remainder
+  unfolding remainder
+  remainder-agrees =
+      let c = contents o laws n l fs rs form p in
+      let t = table o laws rs in
+      let v = vector o laws f in
+      let made = image (k o laws) n t v in
+      same (k o laws) (Agrees (k o laws) n l c) (λ i. k o laws .sub (v i) (k o laws .mul (k o laws .one) (made i))) (λ i. k o laws .sub (v i) (made i))
+      (λ i. ap (k o laws .sub (v i)) (one-mul (k o laws) (made i)))
+      (minus (k o laws) (Agrees (k o laws) n l c) (agrees-linear (k o laws) n l c) (k o laws .one) v made
+      (code-agrees o laws n l fs rs form p f (frame .codes) (agree 0 (omega arith)))
+      (agrees-span (k o laws) n l t (map (vector o laws) fs) (stands o laws n l fs rs form) c
+      (agrees-all o laws n l fs rs form p (λ m h. agree (suc m) (suc-le-suc h))) made (image-fixed (k o laws) n t (reduced o laws n l fs rs form) v)))
+
+  -- so it has no symbol where it has no coefficient
+  no-symbol : (j : ℕ) → j < l → rest-at o n rs f (n + j) ≡ 0
+  unfolding Agrees
+  no-symbol j h =
+      sym (remainder-code (n + j)) ∙ ap (λ x. x .0)
+      (remainder-agrees j h ∙ summed-none (k o laws) n (λ m. k o laws .mul (remainder m) (contents o laws n l fs rs form p m j))
+      (λ m hm. ap (λ x. k o laws .mul x (contents o laws n l fs rs form p m j)) (same-code (remainder-code m ∙ bare m hm)) ∙ zero-mul (k o laws) (contents o laws n l fs rs form p m j)))
+
+pub accepted-frames : AcceptedFrames
+accepted-frames o laws n l fs rs form f frame bare p agree j h = no-symbol o laws n l fs rs form f frame bare p agree j h

@@ -34,3 +34,14 @@ pub record ReducedForm (o : Ops) (n l : ℕ) (fs rows : List (List ℕ)) : Type 
 -- what is left of a frame at a place, when from it is taken each row times the frame's coefficient at that row's lead
 abbrev pub rest-at : Ops → ℕ → List (List ℕ) → List ℕ → ℕ → ℕ
 rest-at o n rows f i = o .difference (code-at f i) (summed o n (λ m. o .product (code-at f m) (row-at rows m i)))
+
+-- what is left of a frame, scaled to 1 at packet a
+abbrev pub scaled-at : Ops → ℕ → List (List ℕ) → List ℕ → ℕ → ℕ → ℕ
+scaled-at o n rows f a i = o .product (o .inverse (rest-at o n rows f a)) (rest-at o n rows f i)
+
+-- the rows with that row put in as row a, and taken from every other row as often as that row has packet a
+pub record Inserted (o : Ops) (n l : ℕ) (rows : List (List ℕ)) (f : List ℕ) (a : ℕ) (others : List (List ℕ)) : Type 0 where
+  pub tall : length others ≡ n
+  pub rows-frames : Frames (o .size) (n + l) others
+  pub new : (i : ℕ) → i < n + l → row-at others a i ≡ scaled-at o n rows f a i
+  pub old : (m : ℕ) → m < n → (m ≡ a → ⊥) → (i : ℕ) → i < n + l → row-at others m i ≡ o .difference (row-at rows m i) (o .product (row-at rows m a) (scaled-at o n rows f a i))
