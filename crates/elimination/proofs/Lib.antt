@@ -1,2 +1,4 @@
 pub mod Below
 pub mod Subtraction
+pub mod Remainder
+pub mod Storing

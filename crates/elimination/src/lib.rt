@@ -1,4 +1,5 @@
 // Row elimination over code slices, written once for every lawful field.
 mod codes;
 pub mod fault;
+mod reduction;
 pub mod rows;

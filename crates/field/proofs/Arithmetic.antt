@@ -49,6 +49,12 @@ module _ {F : Type 0} (k : Arithmetic F) where
   pub sub-zero : (a : F) → sub a zero ≡ a
   sub-zero a = sym (sub-unique a zero a (add-zero a))
 
+  -- taking away twice is taking away the sum
+  pub sub-sub : (a b c : F) → sub (sub a b) c ≡ sub a (add b c)
+  sub-sub a b c =
+      sub-unique a (add b c) (sub (sub a b) c)
+      (ap (add (sub (sub a b) c)) (add-comm b c) ∙ sym (add-assoc (sub (sub a b) c) c b) ∙ ap (λ x. add x b) (sub-add (sub a b) c) ∙ sub-add a b)
+
   -- numbers whose difference is 0 are equal
   pub sub-zero-same : (a b : F) → sub a b ≡ zero → a ≡ b
   sub-zero-same a b e = sym (sub-add a b) ∙ ap (λ x. add x b) e ∙ zero-add b
