@@ -2,3 +2,4 @@ pub mod Below
 pub mod Subtraction
 pub mod Remainder
 pub mod Storing
+pub mod Tabling

@@ -10,8 +10,8 @@ use lib.ListN.{length, getD}
 use Rattle.std.specs.Of.Vec.{vec-items}
 use Rattle.std.specs.declared.alloc.Global.{Global}
 use Rattle.std.specs.declared.vec.Vec.{Vec}
-use Rattle.std.proofs.shelf.Counted.{fill-by-all}
-use Rattle.std.proofs.shelf.Lists.{getD-map}
+use Rattle.std.proofs.shelf.Counted.{fill-by-all, length-map-counting}
+use Rattle.std.proofs.shelf.Lists.{getD-map, length-map}
 use Rattle.field.specs.Fields.{Ops, Lawful}
 use Rattle.field.proofs.Arithmetic.{sub-zero, sub-sub}
 use Rattle.field.proofs.Elements.{elements}
@@ -87,3 +87,13 @@ module _ (o : Ops) (laws : Lawful o) (rows : List (List ℕ)) (f : List ℕ) whe
     unfolding rest-row
     taken-all m rest e t =
         fill-by-all (rest-at o (length rows) rows f) rest (length f) 0 (t .long) (λ i h. t .left i h ∙ ap (λ j. o .difference (code-at f i) (taken j i)) e)
+
+pub length-rest : (o : Ops) (rows : List (List ℕ)) (f : List ℕ) → length (rest-row o rows f) ≡ length f
+unfolding rest-row
+length-rest o rows f = length-map-counting (rest-at o (length rows) rows f) 0 (length f)
+
+-- what is left of a frame has a place for each row
+pub row-places : (o : Ops) (table : List (Vec ℕ Global)) (f room rest : List ℕ) → Reducible (o .size) (lists table) f room → rest ≡ rest-row o (lists table) f → length table ≤ length rest
+row-places o table f room rest ok e =
+    let long : length rest ≡ length f = ap length e ∙ length-rest o (lists table) f in
+    omega (arith, length-map table vec-items, ok .fewer)

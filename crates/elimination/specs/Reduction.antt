@@ -51,3 +51,14 @@ pub record Insertable (q : ℕ) (rows : List (List ℕ)) (a : ℕ) (row : List �
 -- the rows with one put in as row a, and taken from every other row as often as that row has packet a
 unfoldable pub with-row : Ops → List (List ℕ) → ℕ → List ℕ → List (List ℕ)
 with-row o rows a row = set (map (λ old. less-multiple o old (code-at old a) row) rows) a row
+
+-- no coefficient of the frame is left: rest is what is left
+pub record Spanned (o : Ops) (rows : List (List ℕ)) (f rest : List ℕ) : Type 0 where
+  pub rest-is : rest ≡ rest-row o rows f
+  pub none : NoCoefficient (length rows) (rest-row o rows f)
+
+-- a is the first coefficient that is left: row is what is left, scaled to 1 at a
+pub record NewRow (o : Ops) (rows : List (List ℕ)) (f row : List ℕ) (a : ℕ) : Type 0 where
+  pub first : FirstCoefficient (length rows) (rest-row o rows f) a
+  pub row-is : row ≡ multiple o (o .inverse (code-at (rest-row o rows f) a)) (rest-row o rows f)
+  pub codes : Codes (o .size) row

@@ -36,3 +36,13 @@ pub(crate) fn less<F: Field>(field: &F, a: u16, b: u16) -> u16
 {
     field.difference(a, b).unwrap()
 }
+
+// The inverse of a code above 0.
+pub(crate) fn inverse<F: Field>(field: &F, a: u16) -> u16
+    requires positive { ⌜ 0 < a ⌝ }
+    requires code { ⌜ a < ops (now field) .size ⌝ }
+    ensures value { λ r. ⌜ r ≡ ops (now (field .entry)) .inverse a ⌝ }
+    ensures code { λ r. ⌜ r < ops (now (field .entry)) .size ⌝ }
+{
+    field.inverse(a).unwrap()
+}

@@ -3,3 +3,4 @@ mod codes;
 pub mod fault;
 mod reduction;
 pub mod rows;
+mod table;

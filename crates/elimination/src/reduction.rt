@@ -6,7 +6,8 @@ ghost use Rattle.elimination.specs.Rows.{less-multiple};
 ghost use Prim.Native.Nat.{_<_, _≤_};
 ghost use lib.ListN.{length};
 ghost use Rattle.std.specs.Options.{Cases};
-ghost use Rattle.elimination.specs.Reduction.{lists, Reducible, rest-row, NoCoefficient, FirstCoefficient, multiple, Insertable, with-row};
+ghost use Rattle.elimination.specs.Reduction.{lists, Reducible, rest-row, NoCoefficient, FirstCoefficient, multiple, Insertable, with-row, Spanned, NewRow};
+use super::codes::inverse;
 use super::codes::times;
 use super::rows::subtract_codes;
 use field::Field;
@@ -76,4 +77,22 @@ fn overwrite(old: &mut Vec<u16>, row: &[u16])
     ensures { λ _. ⌜ vec-items (now (old .exit)) ≡ now (row .entry) ⌝ }
 {
     old.as_mut_slice().copy_from_slice(row);
+}
+
+// The row that a frame puts in: what is left of it, scaled to 1 at its first coefficient, and the place of that. Where no
+// coefficient is left, `rest` has what is left.
+pub(crate) fn new_row<F: Field>(
+    field: &F,
+    table: &[Vec<u16>],
+    frame: &[u16],
+    rest: &mut [u16],
+) -> Option<usize>
+    requires { ⌜ Reducible (ops (now field) .size) (lists (now table)) (now frame) (now rest) ⌝ }
+    ensures { λ r. ⌜ Cases r (Spanned (ops (now (field .entry))) (lists (now (table .entry))) (now (frame .entry)) (now (rest .exit))) (NewRow (ops (now (field .entry))) (lists (now (table .entry))) (now (frame .entry)) (now (rest .exit))) ⌝ }
+{
+    reduce(field, table, frame, rest);
+    let lead = first_coefficient(rest, table.len())?;
+    let factor = inverse(field, rest[lead]);
+    scale(field, factor, rest);
+    Some(lead)
 }
