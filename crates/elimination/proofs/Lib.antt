@@ -3,3 +3,4 @@ pub mod Subtraction
 pub mod Remainder
 pub mod Storing
 pub mod Tabling
+pub mod Sets

@@ -7,10 +7,10 @@ use mathlib.Core.Logic.{inl, inr}
 use native.Mathlib.Bridge.{le-prop}
 use native.Mathlib.Nat.{ℕ-set, le-trans}
 use native.Mathlib.Omega.{arith}
-use lib.ListN.{length, getD, set}
+use lib.ListN.{length, getD, set, replicate}
 use Rattle.std.proofs.shelf.Counted.{getD-map-counting, length-map-counting}
-use Rattle.std.proofs.shelf.Lists.{getD-map, getD-set-same, getD-set-other, length-map, length-set}
-use Rattle.std.proofs.shelf.Tests.{cases-eq}
+use Rattle.std.proofs.shelf.Lists.{getD-map, getD-past, getD-replicate, getD-set-same, getD-set-other, length-map, length-replicate, length-set}
+use Rattle.std.proofs.shelf.Tests.{cases-eq, cases-lt}
 use Rattle.field.specs.Fields.{Ops, Lawful}
 use Rattle.algebra.specs.Frames.{code-at, Codes, Frame, Frames}
 use Rattle.algebra.specs.Rows.{row-at, Reduced, ReducedForm, SameSpan, rest-at, scaled-at, Inserted}
@@ -115,3 +115,30 @@ module _ (o : Ops) (laws : Lawful o) (n l : ℕ) (rows : List (List ℕ)) (f row
       (λ i h. sym (rest-is i (omega (arith, within))) ∙ new .first .before i h)
       (with-row o rows a row) inserted in
       record { frames = form .rows-frames; reduced = form .reduced }
+
+-- rows of zeros
+zero-row : (w i : ℕ) → getD (replicate {A = ℕ} w 0) i 0 ≡ 0
+zero-row w i =
+    elim (cases-lt i w) [
+      | inl h ↦ getD-replicate w i 0 0 h
+      | inr g ↦ getD-past (replicate w 0) i 0 (subst (λ (n : ℕ). n ≤ i) (sym (length-replicate w 0)) g)
+    ]
+
+zero-rows : (n w m i : ℕ) → row-at (replicate n (replicate w 0)) m i ≡ 0
+zero-rows n w m i =
+    elim (cases-lt m n) [
+      | inl h ↦ ap (λ row. getD row i 0) (getD-replicate n m (replicate w 0) [] h) ∙ zero-row w i
+      | inr g ↦ ap (λ row. getD row i 0) (getD-past (replicate n (replicate w 0)) m [] (subst (λ (x : ℕ). x ≤ m) (sym (length-replicate n (replicate w 0))) g))
+    ]
+
+pub sound-empty : (q n l : ℕ) → 0 < q → Sound q n l (replicate n (replicate (n + l) 0))
+sound-empty q n l h = record {
+  frames = λ m hm. subst (Frame q (n + l)) (sym (getD-replicate n m (replicate (n + l) 0) [] (subst (λ (x : ℕ). m < x) (length-replicate n (replicate (n + l) 0)) hm)))
+      (record { long = length-replicate (n + l) 0; codes = λ i _. subst (λ (x : ℕ). x < q) (sym (zero-row (n + l) i)) h });
+  reduced = record {
+    tall = length-replicate n (replicate (n + l) 0);
+    lead = λ m hm. inr (zero-rows n (n + l) m);
+    before = λ m i hm hi. zero-rows n (n + l) m i;
+    column = λ j m hj hm e ne. zero-rows n (n + l) j m;
+  };
+}

@@ -3,9 +3,10 @@ ghost use mathlib.Core.Path.{_≡_};
 ghost use Rattle.std.specs.Of.Vec.{vec-items};
 ghost use Rattle.algebra.specs.Frames.{code-at, Codes, Frame};
 ghost use Rattle.elimination.specs.Rows.{less-multiple};
-ghost use Prim.Native.Nat.{_<_, _≤_};
+ghost use Prim.Native.Nat.{ℕ, _<_, _≤_};
 ghost use lib.ListN.{length};
 ghost use Rattle.std.specs.Options.{Cases};
+ghost use Rattle.std.specs.Orderings.{When};
 ghost use Rattle.elimination.specs.Reduction.{lists, Reducible, rest-row, NoCoefficient, FirstCoefficient, multiple, Insertable, with-row, Spanned, NewRow};
 use super::codes::inverse;
 use super::codes::times;
@@ -95,4 +96,11 @@ pub(crate) fn new_row<F: Field>(
     let factor = inverse(field, rest[lead]);
     scale(field, factor, rest);
     Some(lead)
+}
+
+// Whether a row is 0 throughout.
+pub(crate) fn all_zero(row: &[u16]) -> bool
+    ensures { λ r. ⌜ When r (NoCoefficient (length (now (row .entry))) (now (row .entry))) ((a : ℕ) × FirstCoefficient (length (now (row .entry))) (now (row .entry)) a) ⌝ }
+{
+    first_coefficient(row, row.len()).is_none()
 }

@@ -5,6 +5,8 @@ ghost use Rattle.std.specs.Of.Vec.{vec-items, vec-len};
 ghost use Rattle.elimination.specs.Reduction.{lists};
 ghost use Rattle.elimination.specs.Sound.{Sound};
 
+mod ask;
+mod build;
 mod take_in;
 
 #[derive(Drop)]

@@ -46,9 +46,9 @@ insert-requires g c κs =
     let tall : length (lists items) ≡ n = length-map items vec-items ∙ sym (table .rows .ok .0) ∙ table .tall in
     let f = c .args .frame .now in
     let frame = subst (λ (q : ℕ). Frame q (n + l) f) (c .pre .field) (c .pre .frame) in
-    let new = subst (λ xs. NewRow o (lists xs) f (c .new-row .last .rest) (c .in-Continue-lead .lead)) (c .as-slice .ensures .value) (c .in-Continue-lead .ensures tt) in
-    subst (λ xs. Insertable (o .size) (lists xs) (c .in-Continue-lead .lead) (c .new-row .last .rest)) (sym (c .as-mut-slice .ensures .value))
-    (insertable o laws n l (lists items) f (c .new-row .last .rest) (c .in-Continue-lead .lead) shaped tall frame new)
+    let new = subst (λ xs. NewRow o (lists xs) f (c .new-row .last .rest) (c .in-Some .lead)) (c .as-slice .ensures .value) (c .in-Some .ensures tt) in
+    subst (λ xs. Insertable (o .size) (lists xs) (c .in-Some .lead) (c .new-row .last .rest)) (sym (c .as-mut-slice .ensures .value))
+    (insertable o laws n l (lists items) f (c .new-row .last .rest) (c .in-Some .lead) shaped tall frame new)
 
 pub ghost-self : need.ghost-self
 ghost-self g c =
@@ -58,13 +58,13 @@ ghost-self g c =
     let n = table .packets in
     let l = table .symbols in
     let items = vec-items (table .rows) in
-    let a = c .in-Continue-lead .lead in
+    let a = c .in-Some .lead in
     let row = c .new-row .last .rest in
     let f = c .args .frame .now in
     let shaped = subst (λ (q : ℕ). Frames q (n + l) (lists items)) (c .pre .field) (∥∥₁-elim (table .sound) (frames-prop (table .q) (n + l) (lists items)) (λ s. s .frames)) in
     let tall : length (lists items) ≡ n = length-map items vec-items ∙ sym (table .rows .ok .0) ∙ table .tall in
     let frame = subst (λ (q : ℕ). Frame q (n + l) f) (c .pre .field) (c .pre .frame) in
-    let new = subst (λ xs. NewRow o (lists xs) f row a) (c .as-slice .ensures .value) (c .in-Continue-lead .ensures tt) in
+    let new = subst (λ xs. NewRow o (lists xs) f row a) (c .as-slice .ensures .value) (c .in-Some .ensures tt) in
     let stored : lists (c .insert .last .table) ≡ with-row o (lists items) a row = c .insert .ensures ∙ ap (λ xs. with-row o (lists xs) a row) (c .as-mut-slice .ensures .value) in
     let long : length (c .insert .last .table) ≡ table .rows .len =
     sym (length-map (c .insert .last .table) vec-items) ∙ ap length stored ∙ long-with o laws n l (lists items) f row a shaped tall frame new ∙ sym (table .tall) in
@@ -94,19 +94,19 @@ returns g c =
     let n = table .packets in
     let l = table .symbols in
     let items = vec-items (table .rows) in
-    let a = c .in-Continue-lead .lead in
+    let a = c .in-Some .lead in
     let row = c .new-row .last .rest in
     let f = c .args .frame .now in
     let shaped = subst (λ (q : ℕ). Frames q (n + l) (lists items)) (c .pre .field) (∥∥₁-elim (table .sound) (frames-prop (table .q) (n + l) (lists items)) (λ s. s .frames)) in
     let tall : length (lists items) ≡ n = length-map items vec-items ∙ sym (table .rows .ok .0) ∙ table .tall in
     let frame = subst (λ (q : ℕ). Frame q (n + l) f) (c .pre .field) (c .pre .frame) in
-    let new = subst (λ xs. NewRow o (lists xs) f row a) (c .as-slice .ensures .value) (c .in-Continue-lead .ensures tt) in
+    let new = subst (λ xs. NewRow o (lists xs) f row a) (c .as-slice .ensures .value) (c .in-Some .ensures tt) in
     let stored : lists (c .insert .last .table) ≡ with-row o (lists items) a row = c .insert .ensures ∙ ap (λ xs. with-row o (lists xs) a row) (c .as-mut-slice .ensures .value) in
     let long : length (c .insert .last .table) ≡ table .rows .len =
     sym (length-map (c .insert .last .table) vec-items) ∙ ap length stored ∙ long-with o laws n l (lists items) f row a shaped tall frame new ∙ sym (table .tall) in
     let kept = ap lists (refilled-is (table .rows) (c .insert .last .table) long) ∙ stored in
     record {
-      rows = (new .first, kept ∙ ap (with-row o (lists items) a) (new .row-is));
+      rows = record { first = new .first; rows-are = kept ∙ ap (with-row o (lists items) a) (new .row-is) };
       size = refl;
       packets = refl;
       symbols = refl;
