@@ -1,2 +1,3 @@
 pub mod Coding
 pub mod Repair
+pub mod Listing

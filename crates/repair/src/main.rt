@@ -1,12 +1,10 @@
 // One repair from beginning to end, at each of the three fields: three packets are sent, and one coded sum of them;
 // the second packet is lost, and rebuilt from what arrived.
-ghost use mathlib.Core.Path.{_≡_};
-ghost use mathlib.Core.List.{_++_};
 
 mod coding;
+mod listing;
 
 use coding::Load;
-use coding::Packet;
 use coding::send_with_loss;
 use elimination::fault::RowsFault;
 use elimination::fault::RowsFaultTells;
@@ -18,49 +16,30 @@ use field::gf256::Gf256;
 use field::gf256::Gf256Field;
 use field::modulo_257::Modulo257;
 use field::modulo_257::Modulo257Field;
+use listing::Line;
+use listing::lines;
 use std::io;
 
-// A frame: three coefficients, then four symbols.
-type Frame = [u16; 7];
-
-fn frame(coefficients: &[u16; 3], packet: &Packet) -> Frame
-    ensures { λ r. ⌜ r ≡ now (coefficients .entry) ++ now (packet .entry) ⌝ }
-{
-    let [a, b, c] = *coefficients;
-    let [w, x, y, z] = *packet;
-    [a, b, c, w, x, y, z]
-}
-
-fn print_frame(rt: &LibcRuntime, what: &str, codes: &Frame, note: &str) -> io::Result<()> {
-    print!(rt, "  {what:<8}")?;
-    for code in codes {
+fn print_line(rt: &LibcRuntime, line: &Line) -> io::Result<()> {
+    let word = line.word.text();
+    print!(rt, "  {word:<8}")?;
+    for code in &line.frame {
         print!(rt, " {code:>3}")?;
     }
-    println!(rt, "{note}")
+    let remark = line.remark.text();
+    println!(rt, "{remark}")
 }
 
 fn print_repair<F: Field>(rt: &LibcRuntime, name: &str, field: &F, load: &Load) -> io::Result<()> {
     println!(rt, "{name}")?;
-    match send_with_loss(field, load) {
-        Ok(repaired) => {
-            print_frame(rt, "sent", &frame(&[1, 0, 0], &load.packets[0]), "")?;
-            print_frame(
-                rt,
-                "sent",
-                &frame(&[0, 1, 0], &load.packets[1]),
-                "  lost on the way",
-            )?;
-            print_frame(rt, "sent", &frame(&[0, 0, 1], &load.packets[2]), "")?;
-            print_frame(rt, "coded", &frame(&load.coefficients, &repaired.coded), "")?;
-            let note = if repaired.rebuilt == load.packets[1] {
-                "  equals what was sent"
-            } else {
-                "  differs from what was sent"
-            };
-            print_frame(rt, "rebuilt", &frame(&[0, 1, 0], &repaired.rebuilt), note)
-        }
-        Err(fault) => print_fault(rt, &fault),
+    let repaired = match send_with_loss(field, load) {
+        Ok(repaired) => repaired,
+        Err(fault) => return print_fault(rt, &fault),
+    };
+    for line in &lines(load, &repaired) {
+        print_line(rt, line)?;
     }
+    Ok(())
 }
 
 fn print_fault(rt: &LibcRuntime, fault: &RowsFault) -> io::Result<()> {
