@@ -1,7 +1,7 @@
 // Row elimination over code slices, written once for every lawful field.
 mod codes;
 pub mod fault;
-pub mod heard;
+mod heard;
 mod reduction;
 pub mod rows;
 mod table;

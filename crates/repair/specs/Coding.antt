@@ -9,7 +9,7 @@ use Rattle.std.specs.declared.option.Option.the-variants.{Some, None}
 use Rattle.std.specs.declared.result.Result.{Result}
 use Rattle.std.specs.declared.result.Result.the-variants.{Ok}
 use Rattle.field.specs.Fields.{Ops}
-use Rattle.algebra.specs.Frames.{Codes}
+use Rattle.algebra.specs.Frames.{Codes, Frame}
 use Rattle.elimination.specs.declared.fault.RowsFault.{RowsFault}
 
 -- the coded sum at one place: each coefficient times its packet's symbol there, summed
@@ -27,9 +27,8 @@ abbrev pub multiple : Ops → ℕ → List ℕ → List ℕ
 multiple o f row = map (λ j. o .product f (getD row j 0)) (counting 0 4)
 
 -- a packet: four symbols, each a code
-pub record Packet (q : ℕ) (p : List ℕ) : Type 0 where
-  pub long : length p ≡ 4
-  pub codes : Codes q p
+abbrev pub Packet : ℕ → List ℕ → Type 0
+Packet q p = Frame q 4 p
 
 -- coefficients and packets that can be sent: as many of the one as of the other, and codes throughout
 pub record Sendable (q : ℕ) (cs : List ℕ) (ps : List (List ℕ)) : Type 0 where
