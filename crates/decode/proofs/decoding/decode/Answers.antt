@@ -9,14 +9,14 @@ pub returns : goal.returns
 returns g c =
     let ops = g.F.Field.ops in
     let s = state ops c.start.new.self in
-    let t = state ops c.hear-all.new.relay in
+    let t = state ops c.hear_all.new.relay in
     let frames = lists c.args.frames.now in
-    let lines = vec_items c.in-ok-lines.lines in
-    let start = c.in-ok-start.ensures in
-    let listed = c.in-ok-lines.ensures.listed in
+    let lines = vec_items c.in_ok-lines.lines in
+    let start = c.in_ok-start.ensures in
+    let listed = c.in_ok-lines.ensures.listed in
     record {
       last = t;
       listed = subst (λ x. Listed x frames lines t) start.started.1 listed;
       promise = start.promise (hearings [] frames lines) t (reached_by s [] s frames lines t refl listed);
-      read = c.in-ok-packets.ensures;
+      read = c.in_ok-packets.ensures;
     }

@@ -16,10 +16,10 @@ loop-i-preserved g c =
     let frames = c.args.frames.now in
     let i = c.loop-i.i in
     let here : i < length (lists frames) = omega (arith, length-map frames vec_items) in
-    let frame : c.as-slice.result.now ≡ get_or (lists frames) i [] =
-    c.as-slice.ensures.value ∙ ap vec_items c.index-frames-i.is ∙ sym (get_or-map vec_items frames i c.index-frames-i.result [] c.loop-i-test.true) in (
-      still m c.as-slice.result.now c.hear-answer.result t c.loop-i.invariant.0 c.hear-answer.ensures,
-      subst₂ (λ fs xs. Listed s fs xs t) (sym (take_more (lists frames) i [] here)) (sym c.in-ok-push.ensures.items)
+    let frame : c.as_slice.result.now ≡ get_or (lists frames) i [] =
+    c.as_slice.ensures.value ∙ ap vec_items c.index-frames-i.is ∙ sym (get_or-map vec_items frames i c.index-frames-i.result [] c.loop-i-test.true) in (
+      still m c.as_slice.result.now c.hear-answer.result t c.loop-i.invariant.0 c.hear-answer.ensures,
+      subst₂ (λ fs xs. Listed s fs xs t) (sym (take_more (lists frames) i [] here)) (sym c.in_ok-push.ensures.items)
           (listed_more s (take i (lists frames)) (vec_items c.loop-i.lines) m (get_or (lists frames) i []) _ t c.loop-i.invariant.1
           (subst (λ f. Hears m f c.hear-answer.result t) frame c.hear-answer.ensures)
           (sym c.unwrap-seen.ensures ∙ c.seen.ensures)),

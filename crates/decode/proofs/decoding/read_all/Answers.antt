@@ -9,5 +9,5 @@ loop-k-preserved g c =
     let s = state g.F.Field.ops c.args.relay.now in
     let l = c.args.symbols in
     let k = c.loop-k.k in
-    subst (λ ps. ReadOff s l ps (k + 1)) (sym c.in-ok-push.ensures.items)
-    (read_more s l (vec_items c.loop-k.read) k c.in-ok-read-packet.field-0 c.loop-k.invariant c.in-ok-read-packet.ensures)
+    subst (λ ps. ReadOff s l ps (k + 1)) (sym c.in_ok-push.ensures.items)
+    (read_more s l (vec_items c.loop-k.read) k c.in_ok-read_packet.field-0 c.loop-k.invariant c.in_ok-read_packet.ensures)

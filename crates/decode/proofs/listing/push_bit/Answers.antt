@@ -8,5 +8,5 @@ returns c =
     let a = string_bytes c.args.text.now in
     let k = c.args.k in
     let bit = c.args.set / 2 ^ k % 2 in
-    pushed_as a (both a (codes " ") (decimal (k + 1)) c.in-ok-push-str.ensures.bytes c.in-ok-push-number.ensures)
+    pushed_as a (both a (codes " ") (decimal (k + 1)) c.in_ok-push_str.ensures.bytes c.in_ok-push_number.ensures)
     (sym (cond-true (eqb bit 1) (codes " " ++ decimal (k + 1)) [] (eq-eqb bit 1 c.if-set-k-ne1.false)))

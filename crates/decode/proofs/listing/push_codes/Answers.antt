@@ -8,4 +8,4 @@ loop-i-init c = joined_none (string_bytes c.args.text.now) (λ i. code_text (get
 
 pub loop-i-preserved : goal.loop-i-preserved
 loop-i-preserved c =
-    joined_more (string_bytes c.args.text.now) (λ i. code_text (get_or c.args.codes.now i 0)) c.loop-i.i c.loop-i.invariant c.in-ok-push-code.ensures
+    joined_more (string_bytes c.args.text.now) (λ i. code_text (get_or c.args.codes.now i 0)) c.loop-i.i c.loop-i.invariant c.in_ok-push_code.ensures

@@ -13,11 +13,11 @@ loop-i-preserved c =
     let frames = c.args.frames.now in
     let i = c.loop-i.i in
     let here : i < length frames = omega (arith, c.min-i-end.ensures) in
-    let frame : c.as-slice.result.now ≡ get_or (lists frames) i [] =
-    c.as-slice.ensures.value ∙ ap vec_items c.index-frames-i.is ∙ sym (get_or-map vec_items frames i c.index-frames-i.result [] here) in
+    let frame : c.as_slice.result.now ≡ get_or (lists frames) i [] =
+    c.as_slice.ensures.value ∙ ap vec_items c.index-frames-i.is ∙ sym (get_or-map vec_items frames i c.index-frames-i.result [] here) in
     let line = get_or c.args.lines.now i (record { answer = Ok 0; seen = 0 }) in
     joined_more (string_bytes c.args.text.now) (line_at (lists frames) c.args.lines.now) i c.loop-i.invariant
-    (pushed_as (string_bytes c.loop-i.text) c.in-ok-push-line.ensures (ap (λ f. line_text f line) frame))
+    (pushed_as (string_bytes c.loop-i.text) c.in_ok-push_line.ensures (ap (λ f. line_text f line) frame))
 
 pub returns : goal.returns
 returns c =

@@ -12,4 +12,4 @@ loop-k-preserved c =
     let packets = c.args.packets.now in
     let k = c.loop-k.k in
     joined_more (string_bytes c.args.text.now) (packet_at packets) k c.loop-k.invariant
-    (pushed_as (string_bytes c.loop-k.text) c.in-ok-push-packet.ensures (ap (packet_text (k + 1)) (get_or_read packets k c.index-packets-k.result c.loop-k-test.true c.index-packets-k.is None)))
+    (pushed_as (string_bytes c.loop-k.text) c.in_ok-push_packet.ensures (ap (packet_text (k + 1)) (get_or_read packets k c.index-packets-k.result c.loop-k-test.true c.index-packets-k.is None)))

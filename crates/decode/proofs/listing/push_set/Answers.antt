@@ -7,4 +7,4 @@ pub loop-k-init : goal.loop-k-init
 loop-k-init c = joined_none (string_bytes c.args.text.now) (bit_text c.args.set)
 
 pub loop-k-preserved : goal.loop-k-preserved
-loop-k-preserved c = joined_more (string_bytes c.args.text.now) (bit_text c.args.set) c.loop-k.k c.loop-k.invariant c.in-ok-push-bit.ensures
+loop-k-preserved c = joined_more (string_bytes c.args.text.now) (bit_text c.args.set) c.loop-k.k c.loop-k.invariant c.in_ok-push_bit.ensures

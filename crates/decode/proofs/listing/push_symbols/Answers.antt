@@ -3,12 +3,12 @@ use Rattle.decode.specs.Listing.{codes_text, symbols_text}
 use Rattle.decode.proofs.Pushing.{pushed_as}
 use Rattle.decode.proofs.listing.push_symbols.Goals as goal
 
-pub returns-in-ok-push-codes : goal.returns-in-ok-push-codes
-returns-in-ok-push-codes c =
+pub returns-in_ok-push_codes : goal.returns-in_ok-push_codes
+returns-in_ok-push_codes c =
     let a = string_bytes c.args.text.now in
-    pushed_as a c.in-ok-push-codes.ensures (ap codes_text c.as-slice.ensures.value ∙ ap symbols_text (sym c.in-Some.is))
+    pushed_as a c.in_ok-push_codes.ensures (ap codes_text c.as_slice.ensures.value ∙ ap symbols_text (sym c.in-Some.is))
 
-pub returns-in-ok-push-str : goal.returns-in-ok-push-str
-returns-in-ok-push-str c =
+pub returns-in_ok-push_str : goal.returns-in_ok-push_str
+returns-in_ok-push_str c =
     let a = string_bytes c.args.text.now in
-    pushed_as a c.in-ok-push-str.ensures.bytes (ap symbols_text (sym c.in-None.is))
+    pushed_as a c.in_ok-push_str.ensures.bytes (ap symbols_text (sym c.in-None.is))

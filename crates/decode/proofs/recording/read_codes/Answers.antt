@@ -8,7 +8,7 @@ pub loop-i-preserved : goal.loop-i-preserved
 loop-i-preserved c =
     let bytes = c.args.bytes.now in
     let i = c.loop-i.i in
-    c.in-ok-push.ensures.items
+    c.in_ok-push.ensures.items
     ∙ ap₂ (λ xs x. xs ++ (x ∷ [])) c.loop-i.invariant (ap₂ (λ h l. h * 256 + l) c.from.ensures c.from-in-loop-i.ensures)
     ∙ sym (map-range_with_len_more (written bytes) 0 i i (omega arith))
 

@@ -17,7 +17,7 @@ clear-requires g c =
     let short : m < length c.loop-m.table = omega arith in
     let h : m < length (lists before) = subst (λ (n : ℕ). m < n) (sym (length-map before vec_items)) c.loop-m-test.true in
     record {
-      old-frame = subst (Frame o.size (length c.args.row.now))
+      old_frame = subst (Frame o.size (length c.args.row.now))
           (sym (c.loop-m.invariant.rest m (le_refl m)) ∙ at_list c.loop-m.table m c.index-table-m.result short) (c.requires.rows_frames m h);
       codes = c.requires.codes;
       wide = c.requires.wide;

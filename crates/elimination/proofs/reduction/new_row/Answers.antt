@@ -5,28 +5,28 @@ use Rattle.elimination.specs.Reduction.{NoCoefficient, FirstCoefficient, multipl
 use Rattle.elimination.proofs.Remainder.{row_places}
 use Rattle.elimination.proofs.reduction.new_row.Goals as goal
 
-pub first-coefficient-requires : goal.first-coefficient-requires
-first-coefficient-requires g c =
+pub first_coefficient-requires : goal.first_coefficient-requires
+first_coefficient-requires g c =
     row_places (g.F.Field.ops c.args.field.now) c.args.table.now c.args.frame.now c.args.rest.now c.reduce.new.rest c.requires c.reduce.ensures.value
 
-pub returns-in-err-lead : goal.returns-in-err-lead
-returns-in-err-lead g c =
+pub returns-in_err-lead : goal.returns-in_err-lead
+returns-in_err-lead g c =
     rw c.from-residual.ensures
     (record {
       rest_is = c.reduce.ensures.value;
-      none = subst₂ NoCoefficient (sym (length-map c.args.table.now vec_items)) c.reduce.ensures.value c.in-err-lead.ensures;
+      none = subst₂ NoCoefficient (sym (length-map c.args.table.now vec_items)) c.reduce.ensures.value c.in_err-lead.ensures;
     })
 
 pub bounds-rest-lead : goal.bounds-rest-lead
 bounds-rest-lead g c =
-    le_trans c.in-ok-lead.ensures.within
+    le_trans c.in_ok-lead.ensures.within
     (row_places (g.F.Field.ops c.args.field.now) c.args.table.now c.args.frame.now c.args.rest.now c.reduce.new.rest c.requires c.reduce.ensures.value)
 
 pub inverse-factor-requires : goal.inverse-factor-requires
 inverse-factor-requires g c =
     record {
-      positive = c.in-ok-lead.ensures.there;
-      code = c.reduce.ensures.codes c.in-ok-lead.lead (le_trans c.in-ok-lead.ensures.within
+      positive = c.in_ok-lead.ensures.there;
+      code = c.reduce.ensures.codes c.in_ok-lead.lead (le_trans c.in_ok-lead.ensures.within
           (row_places (g.F.Field.ops c.args.field.now) c.args.table.now c.args.frame.now c.args.rest.now c.reduce.new.rest c.requires c.reduce.ensures.value));
     }
 
@@ -35,7 +35,7 @@ returns g c =
     let o = g.F.Field.ops c.args.field.now in
     let left = c.reduce.ensures.value in
     record {
-      first = subst₂ (λ n rest. FirstCoefficient n rest c.in-ok-lead.lead) (sym (length-map c.args.table.now vec_items)) left c.in-ok-lead.ensures;
-      row_is = c.scale.ensures.value ∙ ap₂ (multiple o) (c.inverse-factor.ensures.value ∙ ap (λ rest. o.inverse (code_at rest c.in-ok-lead.lead)) left) left;
+      first = subst₂ (λ n rest. FirstCoefficient n rest c.in_ok-lead.lead) (sym (length-map c.args.table.now vec_items)) left c.in_ok-lead.ensures;
+      row_is = c.scale.ensures.value ∙ ap₂ (multiple o) (c.inverse-factor.ensures.value ∙ ap (λ rest. o.inverse (code_at rest c.in_ok-lead.lead)) left) left;
       codes = c.scale.ensures.codes;
     }

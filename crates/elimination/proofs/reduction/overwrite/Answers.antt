@@ -4,4 +4,4 @@ use Rattle.elimination.proofs.reduction.overwrite.Goals as goal
 
 pub returns : goal.returns
 returns c =
-    with_items_is c.args.old.now c.copy-from-slice.new.self (c.copy-from-slice.ensures.len ∙ c.as-mut-slice.ensures.len) ∙ c.copy-from-slice.ensures.after
+    with_items_is c.args.old.now c.copy_from_slice.new.self (c.copy_from_slice.ensures.len ∙ c.as_mut_slice.ensures.len) ∙ c.copy_from_slice.ensures.after

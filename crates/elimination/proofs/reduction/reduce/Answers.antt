@@ -10,7 +10,7 @@ loop-m-init g c =
     let o = g.F.Field.ops c.args.field.now in
     let laws = g.met.F.Field.lawful c.args.field.now in
     let rows = lists c.args.table.now in
-    subst (Taken o laws rows c.args.frame.now 0) (sym c.copy-from-slice.ensures.after) (taken_none o laws rows c.args.frame.now c.args.rest.now c.requires)
+    subst (Taken o laws rows c.args.frame.now 0) (sym c.copy_from_slice.ensures.after) (taken_none o laws rows c.args.frame.now c.args.rest.now c.requires)
 
 pub bounds-frame-m : goal.bounds-frame-m
 bounds-frame-m g c =
@@ -18,14 +18,14 @@ bounds-frame-m g c =
     let tall = length-map c.args.table.now vec_items in
     omega arith
 
-pub subtract-codes-requires : goal.subtract-codes-requires
-subtract-codes-requires g c =
+pub subtract_codes-requires : goal.subtract_codes-requires
+subtract_codes-requires g c =
     let o = g.F.Field.ops c.args.field.now in
     let laws = g.met.F.Field.lawful c.args.field.now in
     let rows = lists c.args.table.now in
     let m = c.loop-m.m in
     let h = subst (λ (n : ℕ). m < n) (sym (length-map c.args.table.now vec_items)) c.loop-m-test.true in
-    let row = read_row c.args.table.now m c.index-table-m.result c.as-slice.result.now c.loop-m-test.true c.index-table-m.is c.as-slice.ensures.value in
+    let row = read_row c.args.table.now m c.index-table-m.result c.as_slice.result.now c.loop-m-test.true c.index-table-m.is c.as_slice.ensures.value in
     subst (Subtractable o.size c.loop-m.rest (get_or c.args.frame.now m 0)) (sym row)
     (taken_fit o laws rows c.args.frame.now c.args.rest.now c.requires m c.loop-m.rest h c.loop-m.invariant)
 
@@ -36,9 +36,9 @@ loop-m-preserved g c =
     let rows = lists c.args.table.now in
     let m = c.loop-m.m in
     let h = subst (λ (n : ℕ). m < n) (sym (length-map c.args.table.now vec_items)) c.loop-m-test.true in
-    let row = read_row c.args.table.now m c.index-table-m.result c.as-slice.result.now c.loop-m-test.true c.index-table-m.is c.as-slice.ensures.value in
-    taken_more o laws rows c.args.frame.now c.args.rest.now c.requires m c.loop-m.rest c.subtract-codes.new.target h c.loop-m.invariant
-    (c.subtract-codes.ensures.after ∙ ap (less_multiple o c.loop-m.rest (get_or c.args.frame.now m 0)) row) c.subtract-codes.ensures.codes
+    let row = read_row c.args.table.now m c.index-table-m.result c.as_slice.result.now c.loop-m-test.true c.index-table-m.is c.as_slice.ensures.value in
+    taken_more o laws rows c.args.frame.now c.args.rest.now c.requires m c.loop-m.rest c.subtract_codes.new.target h c.loop-m.invariant
+    (c.subtract_codes.ensures.after ∙ ap (less_multiple o c.loop-m.rest (get_or c.args.frame.now m 0)) row) c.subtract_codes.ensures.codes
 
 pub returns : goal.returns
 returns g c =

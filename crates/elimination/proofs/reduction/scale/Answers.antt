@@ -8,8 +8,8 @@ pub times-requires : goal.times-requires
 times-requires g c =
     let o = g.F.Field.ops c.args.field.now in
     record {
-      a-code = c.requires.factor_code;
-      b-code = subst (λ (x : ℕ). x < o.size) (sym (c.loop-i.invariant.1 c.loop-i.i (le_refl _))) (c.requires.row_codes c.loop-i.i c.loop-i-test.true);
+      a_code = c.requires.factor_code;
+      b_code = subst (λ (x : ℕ). x < o.size) (sym (c.loop-i.invariant.1 c.loop-i.i (le_refl _))) (c.requires.row_codes c.loop-i.i c.loop-i-test.true);
     }
 
 pub returns : goal.returns

@@ -7,8 +7,8 @@ less-requires g c =
     let o = g.F.Field.ops c.args.field.now in
     let before : c.loop-i.i < length c.args.target.now = omega arith in
     record {
-      a-code = subst (λ (x : ℕ). x < o.size) (sym (c.loop-i.invariant.1 c.loop-i.i (le_refl _))) (c.requires.target_codes c.loop-i.i before);
-      b-code = c.times-product.ensures.code;
+      a_code = subst (λ (x : ℕ). x < o.size) (sym (c.loop-i.invariant.1 c.loop-i.i (le_refl _))) (c.requires.target_codes c.loop-i.i before);
+      b_code = c.times-product.ensures.code;
     }
 
 pub returns : goal.returns

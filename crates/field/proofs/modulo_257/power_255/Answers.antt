@@ -9,11 +9,11 @@ loop-turn-init c = (lit< tt, refl)
 
 pub loop-turn-preserved : goal.loop-turn-preserved
 loop-turn-preserved c =
-    (mod-lt _ (lit< tt), turns_more (times_modulo 257) c.from-base.result c.loop-turn.-turn c.loop-turn.power c.loop-turn.invariant.1)
+    (mod-lt _ (lit< tt), turns_more (times_modulo 257) c.from-base.result c.loop-turn._turn c.loop-turn.power c.loop-turn.invariant.1)
 
 pub returns : goal.returns
 returns c =
-    let eight : c.loop-turn.-turn ≡ 8 = omega arith in
+    let eight : c.loop-turn._turn ≡ 8 = omega arith in
     c.loop-turn.invariant.1 ∙ ap (turns (times_modulo 257) c.from-base.result) eight
     ∙ ap (λ a. turns (times_modulo 257) a 8) c.from-base.ensures
     ∙ inverse_turns 257 8 c.args.a (lit< tt) refl c.requires

@@ -13,7 +13,7 @@ returns g c =
     let laws = g.met.F.Field.lawful c.args.field in
     let n = c.args.packets in
     let l = c.args.symbols in
-    let built = c.in-ok-table.ensures in
+    let built = c.in_ok-table.ensures in
     let empty = ap (state_of o) built.1 ∙ started_at o _ refl in
     record {
       started = (built.0, empty);

@@ -15,18 +15,18 @@ loop-k-preserved g c =
     let laws = g.met.F.Field.lawful c.args.field.now in (
       search rules,
       λ ok.
-          add_turn o laws c.args.coefficients.now c.args.packets.now ok c.loop-k.k c.in-ok-negative.negative c.loop-k.sum c.subtract-multiple.new.target
-          c.loop-k-test.true (c.loop-k.invariant.1 ok) c.in-ok-negative.ensures c.in-ok-subtract-multiple.ensures.after,
+          add_turn o laws c.args.coefficients.now c.args.packets.now ok c.loop-k.k c.in_ok-negative.negative c.loop-k.sum c.subtract_multiple.new.target
+          c.loop-k-test.true (c.loop-k.invariant.1 ok) c.in_ok-negative.ensures c.in_ok-subtract_multiple.ensures.after,
     )
 
-pub returns-in-err-subtract-multiple : goal.returns-in-err-subtract-multiple
-returns-in-err-subtract-multiple g c ok =
+pub returns-in_err-subtract_multiple : goal.returns-in_err-subtract_multiple
+returns-in_err-subtract_multiple g c ok =
     let o = g.F.Field.ops c.args.field.now in
     let laws = g.met.F.Field.lawful c.args.field.now in
-    absurd (never_refused o.size c.loop-k.sum c.in-ok-negative.negative (get_or c.args.packets.now c.loop-k.k []) c.in-err-subtract-multiple.field-0.0
-    (add_fit o laws c.args.coefficients.now c.args.packets.now ok c.loop-k.k c.in-ok-negative.negative c.loop-k.sum
-    c.loop-k-test.true (c.loop-k.invariant.1 ok) c.in-ok-negative.ensures)
-    c.in-err-subtract-multiple.ensures.answer)
+    absurd (never_refused o.size c.loop-k.sum c.in_ok-negative.negative (get_or c.args.packets.now c.loop-k.k []) c.in_err-subtract_multiple.field-0.0
+    (add_fit o laws c.args.coefficients.now c.args.packets.now ok c.loop-k.k c.in_ok-negative.negative c.loop-k.sum
+    c.loop-k-test.true (c.loop-k.invariant.1 ok) c.in_ok-negative.ensures)
+    c.in_err-subtract_multiple.ensures.answer)
 
 pub returns : goal.returns
 returns g c ok =

@@ -3,16 +3,16 @@ use Rattle.repair.specs.Coding.{coded_row}
 use Rattle.repair.proofs.Repairs.{arrives}
 use Rattle.repair.proofs.coding.send_with_loss.Goals as goal
 
-pub returns-in-err-rebuilt : goal.returns-in-err-rebuilt
-returns-in-err-rebuilt g c ok part =
+pub returns-in_err-rebuilt : goal.returns-in_err-rebuilt
+returns-in_err-rebuilt g c ok part =
     let o = g.F.Field.ops c.args.field.now in
     let cs = c.args.load.now.coefficients in
     let ps = c.args.load.now.packets in
-    let coded = c.in-ok-coded.coded in
-    let made = c.in-ok-coded.ensures ok in
+    let coded = c.in_ok-coded.coded in
+    let made = c.in_ok-coded.ensures ok in
     let sum : coded ≡ coded_row o cs ps = cc in
     let three : length ps ≡ 3 = search rules in
-    let back = c.in-err-rebuilt.ensures ps 1 (arrives o cs ps coded ok three part sum) in
+    let back = c.in_err-rebuilt.ensures ps 1 (arrives o cs ps coded ok three part sum) in
     let z : ◌≡◌ {A = ℕ} 0 1 = cc in
     absurd (omega arith)
 
@@ -21,10 +21,10 @@ returns g c ok part =
     let o = g.F.Field.ops c.args.field.now in
     let cs = c.args.load.now.coefficients in
     let ps = c.args.load.now.packets in
-    let coded = c.in-ok-coded.coded in
-    let made = c.in-ok-coded.ensures ok in
+    let coded = c.in_ok-coded.coded in
+    let made = c.in_ok-coded.ensures ok in
     let sum : coded ≡ coded_row o cs ps = cc in
     let three : length ps ≡ 3 = search rules in
-    let back = c.in-ok-rebuilt.ensures ps 1 (arrives o cs ps coded ok three part sum) in
-    let same : c.in-ok-rebuilt.rebuilt ≡ get_or ps 1 [] = cc in
+    let back = c.in_ok-rebuilt.ensures ps 1 (arrives o cs ps coded ok three part sum) in
+    let same : c.in_ok-rebuilt.rebuilt ≡ get_or ps 1 [] = cc in
     cc

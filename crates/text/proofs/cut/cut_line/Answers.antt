@@ -9,13 +9,13 @@ unfolding before
 loop-end-init c = refl
 
 pub loop-end-preserved : goal.loop-end-preserved
-loop-end-preserved c = line_further c.args.text.now c.loop-end.end c.loop-end.invariant c.loop-end-test.true (sym c.line-ends.ensures ∙ c.if-line-ends.false)
+loop-end-preserved c = line_further c.args.text.now c.loop-end.end c.loop-end.invariant c.loop-end-test.true (sym c.line_ends.ensures ∙ c.if-line_ends.false)
 
-pub returns-then-line-ends : goal.returns-then-line-ends
-returns-then-line-ends c =
+pub returns-then-line_ends : goal.returns-then-line_ends
+returns-then-line_ends c =
     let t = c.args.text.now in
     let i = c.loop-end.end in
-    rw (sub-zero i, take_rest t (i + 2)) (line_cut t i c.loop-end.invariant c.loop-end-test.true (sym c.if-line-ends.ensures))
+    rw (sub-zero i, take_rest t (i + 2)) (line_cut t i c.loop-end.invariant c.loop-end-test.true (sym c.if-line_ends.ensures))
 
 pub returns : goal.returns
 returns c =

@@ -3,15 +3,15 @@ use Rattle.text.specs.Lines.{number_after}
 use Rattle.text.proofs.Digits.{digit_range, next_digit, number_further, number_done, ten_more, ten_few}
 use Rattle.text.proofs.line.number.Goals as goal
 
-pub overflow-sub-byte : goal.overflow-sub-byte
-overflow-sub-byte c =
+pub overflow_sub-byte : goal.overflow_sub-byte
+overflow_sub-byte c =
     (digit_range _ (next_digit c.args.field.now c.loop-byte.byte-index c.loop-byte-test.true c.loop-byte.invariant.1).0).0
 
-pub overflow-mul-number : goal.overflow-mul-number
-overflow-mul-number c = let few = ten_few c.loop-byte.number c.loop-byte.byte-index (omega arith) c.loop-byte.invariant.2 in omega arith
+pub overflow_mul-number : goal.overflow_mul-number
+overflow_mul-number c = let few = ten_few c.loop-byte.number c.loop-byte.byte-index (omega arith) c.loop-byte.invariant.2 in omega arith
 
-pub overflow-add-number : goal.overflow-add-number
-overflow-add-number c =
+pub overflow_add-number : goal.overflow_add-number
+overflow_add-number c =
     let few = ten_few c.loop-byte.number c.loop-byte.byte-index (omega arith) c.loop-byte.invariant.2 in
     let range = digit_range (get_or c.args.field.now c.loop-byte.byte-index 0) (next_digit c.args.field.now c.loop-byte.byte-index c.loop-byte-test.true c.loop-byte.invariant.1).0 in
     omega arith

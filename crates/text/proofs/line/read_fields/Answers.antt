@@ -22,35 +22,35 @@ pub returns-in-Err : goal.returns-in-Err
 returns-in-Err c =
     let m = c.args.most in
     let rest = c.loop-number.rest.now in
-    let end = c.field-end-end.result in
+    let end = c.field_end-end.result in
     let k = vec_len c.loop-number.numbers in
-    sym (at_fault m c.args.line.now rest (vec_items c.loop-number.numbers) (k + 1) end c.field-end-end.ensures c.loop-number.invariant.0 c.in-Err.fault
+    sym (at_fault m c.args.line.now rest (vec_items c.loop-number.numbers) (k + 1) end c.field_end-end.ensures c.loop-number.invariant.0 c.in-Err.fault
     (told m c.len.result k end rest (Err c.in-Err.fault) c.len.ensures c.in-Err.ensures))
 
 pub returns-then-end-rest : goal.returns-then-end-rest
 returns-then-end-rest c =
     let m = c.args.most in
     let rest = c.loop-number.rest.now in
-    let end = c.field-end-end.result in
+    let end = c.field_end-end.result in
     let k = vec_len c.loop-number.numbers in
-    ap Ok c.in-ok-push.ensures.items
-    ∙ sym (at_end m c.args.line.now rest (vec_items c.loop-number.numbers) (k + 1) end c.field-end-end.ensures c.loop-number.invariant.0 c.in-Ok.number
+    ap Ok c.in_ok-push.ensures.items
+    ∙ sym (at_end m c.args.line.now rest (vec_items c.loop-number.numbers) (k + 1) end c.field_end-end.ensures c.loop-number.invariant.0 c.in-Ok.number
     (told m c.len.result k end rest (Ok c.in-Ok.number) c.len.ensures c.in-Ok.ensures) (omega arith))
 
 pub loop-number-preserved : goal.loop-number-preserved
 loop-number-preserved c =
     let m = c.args.most in
     let rest = c.loop-number.rest.now in
-    let end = c.field-end-end.result in
+    let end = c.field_end-end.result in
     let k = vec_len c.loop-number.numbers in
-    let within = c.field-end-end.ensures.within in
+    let within = c.field_end-end.ensures.within in
     let inside : end < length rest = omega (arith, c.if-end-rest.false) in
-    let more = c.in-ok-push.ensures.len in
+    let more = c.in_ok-push.ensures.len in
     let left : take (length rest - (end + 1)) (drop (end + 1) rest) ≡ drop (end + 1) rest = take_rest rest (end + 1) in
     let long = ap length left ∙ length-drop (end + 1) rest in (
-      at_comma m c.args.line.now rest (vec_items c.loop-number.numbers) (k + 1) end c.field-end-end.ensures c.loop-number.invariant.0 c.in-Ok.number
+      at_comma m c.args.line.now rest (vec_items c.loop-number.numbers) (k + 1) end c.field_end-end.ensures c.loop-number.invariant.0 c.in-Ok.number
           (told m c.len.result k end rest (Ok c.in-Ok.number) c.len.ensures c.in-Ok.ensures) inside
-          ∙ ap₂ (λ (ns : List ℕ) (j : ℕ). after ns (numbers_from m (j + 1) (fields_of (drop (end + 1) rest)))) (sym c.in-ok-push.ensures.items) (sym more)
+          ∙ ap₂ (λ (ns : List ℕ) (j : ℕ). after ns (numbers_from m (j + 1) (fields_of (drop (end + 1) rest)))) (sym c.in_ok-push.ensures.items) (sym more)
           ∙ ap (λ bs. after (vec_items c.push.new.self) (numbers_from m (vec_len c.push.new.self + 1) (fields_of bs))) (sym left),
       omega (arith, c.loop-number.invariant.1, long, more),
     )

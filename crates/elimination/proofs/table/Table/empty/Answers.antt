@@ -7,18 +7,18 @@ use Rattle.elimination.proofs.table.Table.empty.Goals as goal
 
 pub loop-row-preserved : goal.loop-row-preserved
 loop-row-preserved c =
-    let pushed = c.in-ok-push.ensures in
-    let zeros = c.in-ok-vec.ensures.items-if-clones-equal (λ y e. e) in (
+    let pushed = c.in_ok-push.ensures in
+    let zeros = c.in_ok-vec.ensures.items-if-clones-equal (λ y e. e) in (
       pushed.len ∙ ap (λ m. m + 1) c.loop-row.invariant.0,
-      ap lists pushed.items ∙ map_push vec_items (vec_items c.loop-row.rows) c.in-ok-vec.field-0
-          ∙ ap₂ (λ rows row. rows ++ (row ∷ [])) c.loop-row.invariant.1 zeros ∙ replicate_more c.loop-row.-row (replicate (c.args.packets + c.args.symbols) 0),
+      ap lists pushed.items ∙ map_push vec_items (vec_items c.loop-row.rows) c.in_ok-vec.field-0
+          ∙ ap₂ (λ rows row. rows ++ (row ∷ [])) c.loop-row.invariant.1 zeros ∙ replicate_more c.loop-row._row (replicate (c.args.packets + c.args.symbols) 0),
     )
 
 pub invariant-of-result : goal.invariant-of-result
 invariant-of-result c =
     let n = c.args.packets in
     let l = c.args.symbols in
-    let all : c.loop-row.-row ≡ n = omega arith in (
+    let all : c.loop-row._row ≡ n = omega arith in (
       c.requires.few_packets,
       (
         c.requires.few_symbols,
@@ -36,5 +36,5 @@ pub returns : goal.returns
 returns c =
     let n = c.args.packets in
     let l = c.args.symbols in
-    let all : c.loop-row.-row ≡ n = omega arith in
+    let all : c.loop-row._row ≡ n = omega arith in
     ap (λ rows. record { size = c.args.q; packets = n; symbols = l; rows = rows }) (c.loop-row.invariant.1 ∙ ap (λ m. replicate m (replicate (n + l) 0)) all)

@@ -4,4 +4,4 @@ use Rattle.elimination.proofs.table.Table.empty.Given as goal
 
 abbrev pub invariant-loop-row : goal.invariant-loop-row
 invariant-loop-row l =
-    (vec_len l.rows ≡ l.-row) × (lists (vec_items l.rows) ≡ replicate l.-row (replicate (l.packets + l.symbols) 0))
+    (vec_len l.rows ≡ l._row) × (lists (vec_items l.rows) ≡ replicate l._row (replicate (l.packets + l.symbols) 0))

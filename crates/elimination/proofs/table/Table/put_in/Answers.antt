@@ -10,14 +10,14 @@ use Rattle.elimination.specs.Sound.{Sound}
 use Rattle.elimination.proofs.Tabling.{sound_at, spanned, conflicting, insertable, long_with, form_after, shows_after, sound_after}
 use Rattle.elimination.proofs.table.Table.put_in.Goals as goal
 
-pub new-row-requires : goal.new-row-requires
-new-row-requires g c =
+pub new_row-requires : goal.new_row-requires
+new_row-requires g c =
     let o = g.F.Field.ops c.args.field.now in
     let t = c.args.self.now in
     let w = t.packets + t.symbols in
     let f = c.args.frame.now in
     let sound = sound_at c.requires.field t.sound in
-    let same = c.as-slice.ensures.value in
+    let same = c.as_slice.ensures.value in
     record {
       rows_frames = subst₂ (λ xs n. Frames o.size n (lists xs)) (sym same) (sym c.requires.frame.long) sound.frames;
       fewer = subst (λ xs. length (lists xs) ≤ length f) (sym same) (omega (arith, sound.reduced.tall, c.requires.frame.long));
@@ -25,26 +25,26 @@ new-row-requires g c =
       room = length-take-le (w - 0) _ (omega arith) ∙ omega (arith, c.requires.frame.long);
     }
 
-pub returns-then-all-zero : goal.returns-then-all-zero
-returns-then-all-zero g c =
+pub returns-then-all_zero : goal.returns-then-all_zero
+returns-then-all_zero g c =
     let o = g.F.Field.ops c.args.field.now in
     let laws = g.met.F.Field.lawful c.args.field.now in
     let t = c.args.self.now in
     let f = c.args.frame.now in
     let frame = subst (λ (q : ℕ). Frame q (t.packets + t.symbols) f) (sym c.requires.field) c.requires.frame in
-    let left = subst (λ xs. Spanned o (lists xs) f c.new-row.new.rest) c.as-slice.ensures.value c.in-default.ensures in
-    (spanned o laws t.packets t.symbols (lists (vec_items t.rows)) (sound_at c.requires.field t.sound) f frame c.new-row.new.rest left c.if-all-zero.ensures, refl)
+    let left = subst (λ xs. Spanned o (lists xs) f c.new_row.new.rest) c.as_slice.ensures.value c.in-default.ensures in
+    (spanned o laws t.packets t.symbols (lists (vec_items t.rows)) (sound_at c.requires.field t.sound) f frame c.new_row.new.rest left c.if-all_zero.ensures, refl)
 
-pub returns-else-all-zero : goal.returns-else-all-zero
-returns-else-all-zero g c =
+pub returns-else-all_zero : goal.returns-else-all_zero
+returns-else-all_zero g c =
     let o = g.F.Field.ops c.args.field.now in
     let laws = g.met.F.Field.lawful c.args.field.now in
     let t = c.args.self.now in
     let f = c.args.frame.now in
     let frame = subst (λ (q : ℕ). Frame q (t.packets + t.symbols) f) (sym c.requires.field) c.requires.frame in
-    let left = subst (λ xs. Spanned o (lists xs) f c.new-row.new.rest) c.as-slice.ensures.value c.in-default.ensures in
-    let symbol = c.if-all-zero.ensures in
-    (conflicting o laws t.packets t.symbols (lists (vec_items t.rows)) (sound_at c.requires.field t.sound) f frame c.new-row.new.rest left symbol.0 symbol.1, refl)
+    let left = subst (λ xs. Spanned o (lists xs) f c.new_row.new.rest) c.as_slice.ensures.value c.in-default.ensures in
+    let symbol = c.if-all_zero.ensures in
+    (conflicting o laws t.packets t.symbols (lists (vec_items t.rows)) (sound_at c.requires.field t.sound) f frame c.new_row.new.rest left symbol.0 symbol.1, refl)
 
 pub insert-requires : goal.insert-requires
 insert-requires g c =
@@ -53,10 +53,10 @@ insert-requires g c =
     let t = c.args.self.now in
     let f = c.args.frame.now in
     let a = c.in-Some.lead in
-    let row = c.new-row.new.rest in
+    let row = c.new_row.new.rest in
     let frame = subst (λ (q : ℕ). Frame q (t.packets + t.symbols) f) (sym c.requires.field) c.requires.frame in
-    let new = subst (λ xs. NewRow o (lists xs) f row a) c.as-slice.ensures.value c.in-Some.ensures in
-    subst (λ xs. Insertable o.size (lists xs) a row) (sym c.as-mut-slice.ensures.value)
+    let new = subst (λ xs. NewRow o (lists xs) f row a) c.as_slice.ensures.value c.in-Some.ensures in
+    subst (λ xs. Insertable o.size (lists xs) a row) (sym c.as_mut_slice.ensures.value)
     (insertable o laws t.packets t.symbols (lists (vec_items t.rows)) (sound_at c.requires.field t.sound) f frame row a new)
 
 -- the rows of the table with the row put in
@@ -78,10 +78,10 @@ invariant-of-self g c =
     let sound = sound_at c.requires.field t.sound in
     let f = c.args.frame.now in
     let a = c.in-Some.lead in
-    let row = c.new-row.new.rest in
+    let row = c.new_row.new.rest in
     let frame = subst (λ (q : ℕ). Frame q (t.packets + t.symbols) f) (sym c.requires.field) c.requires.frame in
-    let new = subst (λ xs. NewRow o (lists xs) f row a) c.as-slice.ensures.value c.in-Some.ensures in
-    let stored : lists c.insert.new.table ≡ with_row o rows a row = c.insert.ensures ∙ ap (λ xs. with_row o (lists xs) a row) c.as-mut-slice.ensures.value in (
+    let new = subst (λ xs. NewRow o (lists xs) f row a) c.as_slice.ensures.value c.in-Some.ensures in
+    let stored : lists c.insert.new.table ≡ with_row o rows a row = c.insert.ensures ∙ ap (λ xs. with_row o (lists xs) a row) c.as_mut_slice.ensures.value in (
       t.few_packets,
       (
         t.few_symbols,
@@ -109,10 +109,10 @@ returns g c =
     let sound = sound_at c.requires.field t.sound in
     let f = c.args.frame.now in
     let a = c.in-Some.lead in
-    let row = c.new-row.new.rest in
+    let row = c.new_row.new.rest in
     let frame = subst (λ (q : ℕ). Frame q (t.packets + t.symbols) f) (sym c.requires.field) c.requires.frame in
-    let new = subst (λ xs. NewRow o (lists xs) f row a) c.as-slice.ensures.value c.in-Some.ensures in
-    let stored : lists c.insert.new.table ≡ with_row o rows a row = c.insert.ensures ∙ ap (λ xs. with_row o (lists xs) a row) c.as-mut-slice.ensures.value in
+    let new = subst (λ xs. NewRow o (lists xs) f row a) c.as_slice.ensures.value c.in-Some.ensures in
+    let stored : lists c.insert.new.table ≡ with_row o rows a row = c.insert.ensures ∙ ap (λ xs. with_row o (lists xs) a row) c.as_mut_slice.ensures.value in
     record {
       form = subst (ReducedForm o t.packets t.symbols (f ∷ rows)) (sym (kept o laws t.packets t.symbols t.rows sound f frame row a new c.insert.new.table stored))
           (form_after o laws t.packets t.symbols rows sound f frame row a new);

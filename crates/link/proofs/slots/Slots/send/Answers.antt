@@ -7,10 +7,10 @@ invariant-of-self c = (omega arith, (search (rules, places), (omega arith, (λ e
 
 pub returns : goal.returns
 returns c =
-    let same = c.copy-from-slice.ensures.after in
+    let same = c.copy_from_slice.ensures.after in
     record {
       accepted = search rules;
       one_more = refl;
       one_less = omega arith;
-      frame_is = take_at c.copy-from-slice.new.self _ (length c.args.frame.now) (ap length same) ∙ same;
+      frame_is = take_at c.copy_from_slice.new.self _ (length c.args.frame.now) (ap length same) ∙ same;
     }

@@ -2,8 +2,8 @@ use Rattle.std.proofs.Common.{sym, arith}
 use Rattle.text.proofs.Fetching.{past_lines, past_fields, number_there}
 use Rattle.text.proofs.script.Script.digit.Goals as goal
 
-pub overflow-cast-result : goal.overflow-cast-result
-overflow-cast-result c =
+pub overflow_cast-result : goal.overflow_cast-result
+overflow_cast-result c =
     let e = number_there c.args.self.now.lines c.args.line c.args.field c.index-numbers.result.now (omega arith) c.index-numbers.ensures c.index.result.now (omega arith) c.index.ensures in
     let few = c.args.self.now.digits c.args.line c.args.field in
     omega arith

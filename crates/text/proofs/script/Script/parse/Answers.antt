@@ -3,6 +3,6 @@ use Rattle.text.proofs.script.Script.parse.Goals as goal
 
 pub invariant-of-result : goal.invariant-of-result
 invariant-of-result c =
-    let lines = c.in-ok-lines.field-0.lines in
-    let held = c.in-ok-lines.ensures.lines_are in
+    let lines = c.in_ok-lines.field-0.lines in
+    let held = c.in_ok-lines.ensures.lines_are in
     (held_few c.args.text.now lines held, (held_digits c.args.text.now lines held, tt))

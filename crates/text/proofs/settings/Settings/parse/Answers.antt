@@ -15,8 +15,8 @@ three (x ∷ (y ∷ (z ∷ (w ∷ ws)))) a b c n p q r = absurd (omega arith)
 
 pub returns : goal.returns
 returns c =
-    let numbers = c.in-ok-numbers.numbers in
-    let line = c.cut-line.result.0.now in
-    let read : line_answer 3 (Some 3) line ≡ Ok (vec_items numbers) = told c.in-ok-read-line.field-0 (Ok numbers) (line_answer 3 (Some 3) line) c.in-ok-read-line.ensures c.in-ok-numbers.was in
-    ap (line_answer 3 (Some 3)) (sym c.cut-line.ensures.first) ∙ read
+    let numbers = c.in_ok-numbers.numbers in
+    let line = c.cut_line.result.0.now in
+    let read : line_answer 3 (Some 3) line ≡ Ok (vec_items numbers) = told c.in_ok-read_line.field-0 (Ok numbers) (line_answer 3 (Some 3) line) c.in_ok-read_line.ensures c.in_ok-numbers.was in
+    ap (line_answer 3 (Some 3)) (sym c.cut_line.ensures.first) ∙ read
     ∙ ap Ok (three (vec_items numbers) c.index.result.now c.index-2.result.now c.index-3.result.now (wide 3 (numbers_from 3 1 (fields_of line)) (vec_items numbers) read) c.index.ensures c.index-2.ensures c.index-3.ensures)

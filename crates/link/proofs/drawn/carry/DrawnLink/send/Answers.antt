@@ -10,6 +10,6 @@ invariant-of-self-2 c =
       ap length drawn ∙ drawn_length n d.loss d.state ∙ d.eight,
       (
         λ i. subst (λ (ks : List ℕ). get_or ks i 0 ≤ 1) (sym drawn) (drawn_single n d.loss d.state d.eight i),
-        (λ z. absurd (omega (arith, c.in-ok-send.ensures.one_more)), tt),
+        (λ z. absurd (omega (arith, c.in_ok-send.ensures.one_more)), tt),
       ),
     )
