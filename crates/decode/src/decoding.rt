@@ -31,7 +31,7 @@ pub fn decode<F: Field + Drop>(
     symbols: usize,
     frames: &[Vec<u16>],
 ) -> Result<Decoding, RowsFault>
-    ensures { Decodes (ops field) packets symbols (lists frames.now) result }
+    ensures { Decodes (F.ops field) packets symbols (lists frames.now) result }
 {
     let mut relay = Relay::empty();
     relay.start(heap, field, packets, symbols)?;
@@ -46,9 +46,9 @@ fn hear_all<F: Field + Drop>(
     relay: &mut Relay<F>,
     frames: &[Vec<u16>],
 ) -> Result<Vec<Line>, AllocError>
-    requires { is_some (state ops relay.old) ≡ true }
-    ensures started { is_some (state ops relay.new) ≡ true }
-    ensures listed { IfOk result (λ v. Listed (state ops relay.old) (lists frames.now) v.items (state ops relay.new)) }
+    requires { is_some (state F.ops relay.old) ≡ true }
+    ensures started { is_some (state F.ops relay.new) ≡ true }
+    ensures listed { IfOk result (λ v. Listed (state F.ops relay.old) (lists frames.now) v.items (state F.ops relay.new)) }
 {
     let mut lines = Vec::new(heap);
     for i in 0..frames.len() {
@@ -66,7 +66,7 @@ fn read_all<F: Field + Drop>(
     packets: usize,
     symbols: usize,
 ) -> Result<Vec<Option<Vec<u16>>>, AllocError>
-    ensures { IfOk result (λ v. ReadOff (state ops relay.now) symbols v.items packets) }
+    ensures { IfOk result (λ v. ReadOff (state F.ops relay.now) symbols v.items packets) }
 {
     let mut read = Vec::new(heap);
     for k in 0..packets {
@@ -82,7 +82,7 @@ fn read_packet<F: Field + Drop>(
     packet: usize,
     symbols: usize,
 ) -> Result<Option<Vec<u16>>, AllocError>
-    ensures { IfOk result (ReadAs (state ops relay.now) symbols packet) }
+    ensures { IfOk result (ReadAs (state F.ops relay.now) symbols packet) }
 {
     let mut buffer = vec![in heap; 0; symbols]?;
     match relay.fetch(packet, buffer.as_mut_slice()) {

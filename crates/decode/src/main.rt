@@ -22,7 +22,7 @@ fn told<F: Field + Drop>(
     bytes: &[u8],
     field: F,
 ) -> Result<String, AllocError>
-    ensures { IfOk result (λ t. Told (ops field) name.now bytes.now (string_bytes t)) }
+    ensures { IfOk result (λ t. Told (F.ops field) name.now bytes.now (string_bytes t)) }
 {
     let frames = read_frames(heap, bytes, 7)?;
     match decode(heap, field, 4, 3, frames.as_slice()) {

@@ -32,30 +32,30 @@ pub(crate) fn check_pair(q: u32, first: &[u16], second: &[u16]) -> Result<(), Ro
 
 // The product of two codes.
 pub(crate) fn times<F: Field>(field: &F, a: u16, b: u16) -> u16
-    requires a_code { a < (ops field.now).size }
-    requires b_code { b < (ops field.now).size }
-    ensures value { result ≡ (ops field.now).product a b }
-    ensures code { result < (ops field.now).size }
+    requires a_code { a < (F.ops field.now).size }
+    requires b_code { b < (F.ops field.now).size }
+    ensures value { result ≡ (F.ops field.now).product a b }
+    ensures code { result < (F.ops field.now).size }
 {
     field.product(a, b).unwrap()
 }
 
 // The sum of two codes.
 pub(crate) fn plus<F: Field>(field: &F, a: u16, b: u16) -> u16
-    requires a_code { a < (ops field.now).size }
-    requires b_code { b < (ops field.now).size }
-    ensures value { result ≡ (ops field.now).sum a b }
-    ensures code { result < (ops field.now).size }
+    requires a_code { a < (F.ops field.now).size }
+    requires b_code { b < (F.ops field.now).size }
+    ensures value { result ≡ (F.ops field.now).sum a b }
+    ensures code { result < (F.ops field.now).size }
 {
     field.sum(a, b).unwrap()
 }
 
 // The difference of two codes.
 pub(crate) fn less<F: Field>(field: &F, a: u16, b: u16) -> u16
-    requires a_code { a < (ops field.now).size }
-    requires b_code { b < (ops field.now).size }
-    ensures value { result ≡ (ops field.now).difference a b }
-    ensures code { result < (ops field.now).size }
+    requires a_code { a < (F.ops field.now).size }
+    requires b_code { b < (F.ops field.now).size }
+    ensures value { result ≡ (F.ops field.now).difference a b }
+    ensures code { result < (F.ops field.now).size }
 {
     field.difference(a, b).unwrap()
 }
@@ -63,9 +63,9 @@ pub(crate) fn less<F: Field>(field: &F, a: u16, b: u16) -> u16
 // The inverse of a code above 0.
 pub(crate) fn inverse<F: Field>(field: &F, a: u16) -> u16
     requires positive { 0 < a }
-    requires code { a < (ops field.now).size }
-    ensures value { result ≡ (ops field.now).inverse a }
-    ensures code { result < (ops field.now).size }
+    requires code { a < (F.ops field.now).size }
+    ensures value { result ≡ (F.ops field.now).inverse a }
+    ensures code { result < (F.ops field.now).size }
 {
     field.inverse(a).unwrap()
 }

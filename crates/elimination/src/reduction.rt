@@ -10,9 +10,9 @@ use field::Field;
 
 // What is left of a frame when from it is taken each row times the frame's coefficient at that row's lead.
 pub(crate) fn reduce<F: Field>(field: &F, table: &[Vec<u16>], frame: &[u16], rest: &mut [u16])
-    requires { Reducible (ops field.now).size (lists table.now) frame.now rest.old }
-    ensures value { rest.new ≡ rest_row (ops field.now) (lists table.now) frame.now }
-    ensures codes { Codes (ops field.now).size rest.new }
+    requires { Reducible (F.ops field.now).size (lists table.now) frame.now rest.old }
+    ensures value { rest.new ≡ rest_row (F.ops field.now) (lists table.now) frame.now }
+    ensures codes { Codes (F.ops field.now).size rest.new }
 {
     rest.copy_from_slice(frame);
     for m in 0..table.len() {
@@ -35,10 +35,10 @@ pub(crate) fn first_coefficient(row: &[u16], n: usize) -> Option<usize>
 
 // Multiplies each code of a row.
 pub(crate) fn scale<F: Field>(field: &F, factor: u16, row: &mut [u16])
-    requires factor_code { factor < (ops field.now).size }
-    requires row_codes { Codes (ops field.now).size row.old }
-    ensures value { row.new ≡ multiple (ops field.now) factor row.old }
-    ensures codes { Codes (ops field.now).size row.new }
+    requires factor_code { factor < (F.ops field.now).size }
+    requires row_codes { Codes (F.ops field.now).size row.old }
+    ensures value { row.new ≡ multiple (F.ops field.now) factor row.old }
+    ensures codes { Codes (F.ops field.now).size row.new }
 {
     for i in 0..row.len() {
         row[i] = times(field, factor, row[i]);
@@ -47,8 +47,8 @@ pub(crate) fn scale<F: Field>(field: &F, factor: u16, row: &mut [u16])
 
 // Puts a row in as row a, and takes it from every other row as often as that row has packet a.
 pub(crate) fn insert<F: Field>(field: &F, table: &mut [Vec<u16>], a: usize, row: &[u16])
-    requires { Insertable (ops field.now).size (lists table.old) a row.now }
-    ensures { lists table.new ≡ with_row (ops field.now) (lists table.old) a row.now }
+    requires { Insertable (F.ops field.now).size (lists table.old) a row.now }
+    ensures { lists table.new ≡ with_row (F.ops field.now) (lists table.old) a row.now }
 {
     for m in 0..table.len() {
         clear(field, &mut table[m], a, row);
@@ -58,10 +58,10 @@ pub(crate) fn insert<F: Field>(field: &F, table: &mut [Vec<u16>], a: usize, row:
 
 // Takes a row from an old one as often as that has packet a.
 fn clear<F: Field>(field: &F, old: &mut Vec<u16>, a: usize, row: &[u16])
-    requires old_frame { Frame (ops field.now).size (length row.now) old.old.items }
-    requires codes { Codes (ops field.now).size row.now }
+    requires old_frame { Frame (F.ops field.now).size (length row.now) old.old.items }
+    requires codes { Codes (F.ops field.now).size row.now }
     requires wide { a < length row.now }
-    ensures { old.new.items ≡ less_multiple (ops field.now) old.old.items (code_at old.old.items a) row.now }
+    ensures { old.new.items ≡ less_multiple (F.ops field.now) old.old.items (code_at old.old.items a) row.now }
 {
     let factor = old[a];
     subtract_codes(field, old.as_mut_slice(), factor, row);
@@ -83,8 +83,8 @@ pub(crate) fn new_row<F: Field>(
     frame: &[u16],
     rest: &mut [u16],
 ) -> Option<usize>
-    requires { Reducible (ops field.now).size (lists table.now) frame.now rest.old }
-    ensures { MatchOption result (Spanned (ops field.now) (lists table.now) frame.now rest.new) (NewRow (ops field.now) (lists table.now) frame.now rest.new) }
+    requires { Reducible (F.ops field.now).size (lists table.now) frame.now rest.old }
+    ensures { MatchOption result (Spanned (F.ops field.now) (lists table.now) frame.now rest.new) (NewRow (F.ops field.now) (lists table.now) frame.now rest.new) }
 {
     reduce(field, table, frame, rest);
     let lead = first_coefficient(rest, table.len())?;

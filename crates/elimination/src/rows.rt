@@ -15,9 +15,9 @@ pub fn subtract_multiple<F: Field>(
     factor: u16,
     source: &[u16],
 ) -> Result<(), RowsFault>
-    ensures answer { result ≡ subtract_answer (ops field.now).size target.old factor source.now }
-    ensures after { target.new ≡ subtract_after (ops field.now) target.old factor source.now result }
-    ensures codes { OnOk result (Codes (ops field.now).size target.new) }
+    ensures answer { result ≡ subtract_answer (F.ops field.now).size target.old factor source.now }
+    ensures after { target.new ≡ subtract_after (F.ops field.now) target.old factor source.now result }
+    ensures codes { OnOk result (Codes (F.ops field.now).size target.new) }
 {
     check_subtraction(field.size(), target, factor, source)?;
     subtract_codes(field, target, factor, source);
@@ -37,9 +37,9 @@ fn check_subtraction(q: u32, target: &[u16], factor: u16, source: &[u16]) -> Res
 
 // The same for rows of one length whose codes are known to be below q; codes stay codes.
 pub(crate) fn subtract_codes<F: Field>(field: &F, target: &mut [u16], factor: u16, source: &[u16])
-    requires { Subtractable (ops field.now).size target.old factor source.now }
-    ensures after { target.new ≡ less_multiple (ops field.now) target.old factor source.now }
-    ensures codes { Codes (ops field.now).size target.new }
+    requires { Subtractable (F.ops field.now).size target.old factor source.now }
+    ensures after { target.new ≡ less_multiple (F.ops field.now) target.old factor source.now }
+    ensures codes { Codes (F.ops field.now).size target.new }
 {
     for i in 0..target.len() {
         let product = times(field, factor, source[i]);

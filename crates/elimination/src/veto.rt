@@ -10,7 +10,7 @@ use field::Field;
 // The sum of the coefficients that a frame has before a packet, each times the code that a relay's row with that lead has at
 // the packet; `column` has these codes.
 pub fn veto_sum<F: Field>(field: &F, coefficients: &[u16], column: &[u16]) -> Result<u16, RowsFault>
-    ensures { result ≡ veto_answer (ops field.now) coefficients.now column.now }
+    ensures { result ≡ veto_answer (F.ops field.now) coefficients.now column.now }
 {
     check_pair(field.size(), coefficients, column)?;
     Ok(sum_products(field, coefficients, column))
@@ -19,9 +19,9 @@ pub fn veto_sum<F: Field>(field: &F, coefficients: &[u16], column: &[u16]) -> Re
 // The same for slices of one length whose codes are known to be below q.
 fn sum_products<F: Field>(field: &F, coefficients: &[u16], column: &[u16]) -> u16
     requires long { length column.now ≡ length coefficients.now }
-    requires coefficients { Codes (ops field.now).size coefficients.now }
-    requires column { Codes (ops field.now).size column.now }
-    ensures { result ≡ veto (ops field.now) coefficients.now column.now }
+    requires coefficients { Codes (F.ops field.now).size coefficients.now }
+    requires column { Codes (F.ops field.now).size column.now }
+    ensures { result ≡ veto (F.ops field.now) coefficients.now column.now }
 {
     let mut sum = 0;
     for i in 0..coefficients.len() {

@@ -24,7 +24,7 @@ const OUTER: Periods = Periods {
 
 // The counts of all eight relays, as any link answers them.
 fn all_copies<L: Link>(link: &L) -> [u8; 8]
-    ensures { result ≡ counts link.now }
+    ensures { result ≡ L.counts link.now }
 {
     let mut all = [0; 8];
     for i in 0..8 {

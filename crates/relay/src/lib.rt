@@ -20,7 +20,7 @@ pub struct Relay<F> {
 impl<F: Field + Drop> Relay<F> {
     // An empty place.
     pub fn empty() -> Relay<F>
-        ensures { state ops result ≡ None }
+        ensures { state F.ops result ≡ None }
     {
         Relay { place: None }
     }
@@ -33,8 +33,8 @@ impl<F: Field + Drop> Relay<F> {
         packets: usize,
         symbols: usize,
     ) -> Result<(), RowsFault>
-        ensures started { Starts (ops field) packets symbols (state ops self.old) result (state ops self.new) }
-        ensures promise { OnOk result ((hs : List Hearing) (t : Option State) → Reached (state ops self.new) hs t → Promise (ops field) packets symbols hs t) }
+        ensures started { Starts (F.ops field) packets symbols (state F.ops self.old) result (state F.ops self.new) }
+        ensures promise { OnOk result ((hs : List Hearing) (t : Option State) → Reached (state F.ops self.new) hs t → Promise (F.ops field) packets symbols hs t) }
     {
         let table = Table::new(heap, &field, packets, symbols)?;
         self.place = Some(Started { field, table });
@@ -43,7 +43,7 @@ impl<F: Field + Drop> Relay<F> {
 
     // Hears a frame, and answers the packet newly seen by it, or 0.
     pub fn hear(&mut self, frame: &[u16]) -> Result<usize, RowsFault>
-        ensures { Hears (state ops self.old) frame.now result (state ops self.new) }
+        ensures { Hears (state F.ops self.old) frame.now result (state F.ops self.new) }
     {
         match &mut self.place {
             Some(started) => started.hear(frame),
@@ -53,7 +53,7 @@ impl<F: Field + Drop> Relay<F> {
 
     // The packets seen, as a set: bit k - 1 for packet k.
     pub fn seen(&self) -> Result<u32, RowsFault>
-        ensures { result ≡ seen_answer (state ops self.now) }
+        ensures { result ≡ seen_answer (state F.ops self.now) }
     {
         match &self.place {
             Some(started) => started.seen(),
@@ -63,7 +63,7 @@ impl<F: Field + Drop> Relay<F> {
 
     // Writes a determined packet into a buffer.
     pub fn fetch(&self, packet: usize, buffer: &mut [u16]) -> Result<(), RowsFault>
-        ensures { Fetches (state ops self.now) packet buffer.old result buffer.new }
+        ensures { Fetches (state F.ops self.now) packet buffer.old result buffer.new }
     {
         match &self.place {
             Some(started) => started.fetch(packet, buffer),

@@ -17,7 +17,7 @@ pub(crate) struct Started<F> {
 
 impl<F: Field> Started<F> {
     pub(crate) fn hear(&mut self, frame: &[u16]) -> Result<usize, RowsFault>
-        ensures { Hears (started_state ops self.old) frame.now result (started_state ops self.new) }
+        ensures { Hears (started_state F.ops self.old) frame.now result (started_state F.ops self.new) }
     {
         match self.table.take_in(&self.field, frame)? {
             Heard::New(lead) => Ok(lead + 1),
@@ -27,7 +27,7 @@ impl<F: Field> Started<F> {
     }
 
     pub(crate) fn seen(&self) -> Result<u32, RowsFault>
-        ensures { result ≡ seen_answer (started_state ops self.now) }
+        ensures { result ≡ seen_answer (started_state F.ops self.now) }
     {
         if !self.table.fits(&self.field) {
             return Err(RowsFault::NotStarted);
@@ -36,7 +36,7 @@ impl<F: Field> Started<F> {
     }
 
     pub(crate) fn fetch(&self, packet: usize, buffer: &mut [u16]) -> Result<(), RowsFault>
-        ensures { Fetches (started_state ops self.now) packet buffer.old result buffer.new }
+        ensures { Fetches (started_state F.ops self.now) packet buffer.old result buffer.new }
     {
         if !self.table.fits(&self.field) {
             return Err(RowsFault::NotStarted);

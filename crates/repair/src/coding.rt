@@ -15,7 +15,7 @@ fn coded_sum<F: Field>(
     coefficients: &[u16],
     packets: &[Packet],
 ) -> Result<Packet, RowsFault>
-    ensures { Coded (ops field.now) coefficients.now packets.now result }
+    ensures { Coded (F.ops field.now) coefficients.now packets.now result }
 {
     if coefficients.len() != packets.len() {
         return Err(RowsFault::WrongLength);
@@ -30,7 +30,7 @@ fn coded_sum<F: Field>(
 
 // The factor times the row.
 fn scaled<F: Field>(field: &F, factor: u16, row: &Packet) -> Result<Packet, RowsFault>
-    ensures { Scaled (ops field.now) factor row.now result }
+    ensures { Scaled (F.ops field.now) factor row.now result }
 {
     let mut product = [0; 4];
     let negative = field.difference(0, factor)?;
@@ -45,7 +45,7 @@ fn rebuild<F: Field>(
     received: &[Option<Packet>],
     coded: &Packet,
 ) -> Result<Packet, RowsFault>
-    ensures { Rebuilt (ops field.now) coefficients.now received.now coded.now result }
+    ensures { Rebuilt (F.ops field.now) coefficients.now received.now coded.now result }
 {
     if coefficients.len() != received.len() {
         return Err(RowsFault::WrongLength);
@@ -78,7 +78,7 @@ pub struct Repaired {
 
 // Sends the packets and their coded sum, loses the second packet, and rebuilds it from the rest.
 pub fn send_with_loss<F: Field>(field: &F, load: &Load) -> Result<Repaired, RowsFault>
-    ensures { Survived (ops field.now) load.now.coefficients load.now.packets result }
+    ensures { Survived (F.ops field.now) load.now.coefficients load.now.packets result }
 {
     let coded = coded_sum(field, &load.coefficients, &load.packets)?;
     let received = [Some(load.packets[0]), None, Some(load.packets[2])];

@@ -10,7 +10,7 @@ use field::Field;
 impl Table {
     // Whether the table was built for a field of this size.
     pub fn fits<F: Field>(&self, field: &F) -> bool
-        ensures { result ≡ ((ops field.now).size == (held self.now).size) }
+        ensures { result ≡ ((F.ops field.now).size == (held self.now).size) }
     {
         field.size() == self.q
     }

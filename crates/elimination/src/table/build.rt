@@ -15,7 +15,7 @@ impl Table {
         packets: usize,
         symbols: usize,
     ) -> Result<Table, RowsFault>
-        ensures { Built (ops field.now) packets symbols result }
+        ensures { Built (F.ops field.now) packets symbols result }
     {
         check_sizes(packets, symbols)?;
         let table = Table::empty(heap, field.size(), packets, symbols)?;

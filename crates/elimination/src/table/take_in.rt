@@ -13,7 +13,7 @@ use field::Field;
 impl Table {
     // Takes in a frame, or refuses what is none.
     pub fn take_in<F: Field>(&mut self, field: &F, frame: &[u16]) -> Result<Heard, RowsFault>
-        ensures { TakesIn (ops field.now) (held self.old) frame.now result (held self.new) }
+        ensures { TakesIn (F.ops field.now) (held self.old) frame.now result (held self.new) }
     {
         self.check_frame(field, frame)?;
         Ok(self.put_in(field, frame))
@@ -21,7 +21,7 @@ impl Table {
 
     // Refuses a frame that is none for this table.
     fn check_frame<F: Field>(&self, field: &F, frame: &[u16]) -> Result<(), RowsFault>
-        ensures { result ≡ frame_answer (ops field.now) (held self.now) frame.now }
+        ensures { result ≡ frame_answer (F.ops field.now) (held self.now) frame.now }
     {
         if field.size() != self.q {
             return Err(RowsFault::NotStarted);
@@ -35,9 +35,9 @@ impl Table {
 
     // Takes in a frame that is one for this table.
     fn put_in<F: Field>(&mut self, field: &F, frame: &[u16]) -> Heard
-        requires field { (ops field.now).size ≡ self.old.q }
+        requires field { (F.ops field.now).size ≡ self.old.q }
         requires frame { Frame self.old.q (self.old.packets + self.old.symbols) frame.now }
-        ensures { TakenIn (ops field.now) (held self.old) frame.now result (held self.new) }
+        ensures { TakenIn (F.ops field.now) (held self.old) frame.now result (held self.new) }
     {
         let mut buffer = [0; 64];
         let row = &mut buffer[0..self.packets + self.symbols];

@@ -11,7 +11,7 @@ first_coefficient-requires g c =
 
 pub returns-in_err-lead : goal.returns-in_err-lead
 returns-in_err-lead g c =
-    rw c.from-residual.ensures
+    rw c.from_residual.ensures
     (record {
       rest_is = c.reduce.ensures.value;
       none = subst₂ NoCoefficient (sym (length-map c.args.table.now vec_items)) c.reduce.ensures.value c.in_err-lead.ensures;

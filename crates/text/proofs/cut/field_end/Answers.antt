@@ -7,10 +7,10 @@ unfolding before
 loop-end-init c = refl
 
 pub loop-end-preserved : goal.loop-end-preserved
-loop-end-preserved c = field_further c.args.line.now c.loop-end.end c.loop-end.invariant c.loop-end-test.true c.if-line_end-eq44.false
+loop-end-preserved c = field_further c.args.line.now c.loop-end.end c.loop-end.invariant c.loop-end-test.true c.if-line-end-eq44.false
 
-pub returns-then-line_end-eq44 : goal.returns-then-line_end-eq44
-returns-then-line_end-eq44 c = field_comma c.args.line.now c.loop-end.end c.loop-end.invariant c.loop-end-test.true c.if-line_end-eq44.true
+pub returns-then-line-end-eq44 : goal.returns-then-line-end-eq44
+returns-then-line-end-eq44 c = field_comma c.args.line.now c.loop-end.end c.loop-end.invariant c.loop-end-test.true c.if-line-end-eq44.true
 
 pub returns : goal.returns
 returns c = field_whole c.args.line.now c.loop-end.end c.loop-end.invariant c.loop-end-test.false

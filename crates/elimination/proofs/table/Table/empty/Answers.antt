@@ -8,14 +8,14 @@ use Rattle.elimination.proofs.table.Table.empty.Goals as goal
 pub loop-row-preserved : goal.loop-row-preserved
 loop-row-preserved c =
     let pushed = c.in_ok-push.ensures in
-    let zeros = c.in_ok-vec.ensures.items-if-clones-equal (λ y e. e) in (
+    let zeros = c.in_ok-vec.ensures.items_if_clones_equal (λ y e. e) in (
       pushed.len ∙ ap (λ m. m + 1) c.loop-row.invariant.0,
       ap lists pushed.items ∙ map_push vec_items (vec_items c.loop-row.rows) c.in_ok-vec.field-0
           ∙ ap₂ (λ rows row. rows ++ (row ∷ [])) c.loop-row.invariant.1 zeros ∙ replicate_more c.loop-row._row (replicate (c.args.packets + c.args.symbols) 0),
     )
 
-pub invariant-of-result : goal.invariant-of-result
-invariant-of-result c =
+pub invariant_of-result : goal.invariant_of-result
+invariant_of-result c =
     let n = c.args.packets in
     let l = c.args.symbols in
     let all : c.loop-row._row ≡ n = omega arith in (

@@ -32,7 +32,7 @@ returns-then-all_zero g c =
     let t = c.args.self.now in
     let f = c.args.frame.now in
     let frame = subst (λ (q : ℕ). Frame q (t.packets + t.symbols) f) (sym c.requires.field) c.requires.frame in
-    let left = subst (λ xs. Spanned o (lists xs) f c.new_row.new.rest) c.as_slice.ensures.value c.in-default.ensures in
+    let left = subst (λ xs. Spanned o (lists xs) f c.new_row.new.rest) c.as_slice.ensures.value c.in_default.ensures in
     (spanned o laws t.packets t.symbols (lists (vec_items t.rows)) (sound_at c.requires.field t.sound) f frame c.new_row.new.rest left c.if-all_zero.ensures, refl)
 
 pub returns-else-all_zero : goal.returns-else-all_zero
@@ -42,7 +42,7 @@ returns-else-all_zero g c =
     let t = c.args.self.now in
     let f = c.args.frame.now in
     let frame = subst (λ (q : ℕ). Frame q (t.packets + t.symbols) f) (sym c.requires.field) c.requires.frame in
-    let left = subst (λ xs. Spanned o (lists xs) f c.new_row.new.rest) c.as_slice.ensures.value c.in-default.ensures in
+    let left = subst (λ xs. Spanned o (lists xs) f c.new_row.new.rest) c.as_slice.ensures.value c.in_default.ensures in
     let symbol = c.if-all_zero.ensures in
     (conflicting o laws t.packets t.symbols (lists (vec_items t.rows)) (sound_at c.requires.field t.sound) f frame c.new_row.new.rest left symbol.0 symbol.1, refl)
 
@@ -69,8 +69,8 @@ kept o laws n l v sound f frame row a new filled stored =
     (sym (length-map filled vec_items) ∙ ap length stored ∙ long_with o laws n l rows sound f frame row a new ∙ sym sound.reduced.tall ∙ length-map (vec_items v) vec_items ∙ sym v.ok.0))
     ∙ stored
 
-pub invariant-of-self : goal.invariant-of-self
-invariant-of-self g c =
+pub invariant_of-self : goal.invariant_of-self
+invariant_of-self g c =
     let o = g.F.Field.ops c.args.field.now in
     let laws = g.met.F.Field.lawful c.args.field.now in
     let t = c.args.self.now in

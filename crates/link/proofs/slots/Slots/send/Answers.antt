@@ -2,8 +2,8 @@ use Rattle.std.proofs.Common.{length, refl, ap, ◌∙◌, arith, rules}
 use Rattle.std.proofs.lemmas.List.{places, take_at}
 use Rattle.link.proofs.slots.Slots.send.Goals as goal
 
-pub invariant-of-self : goal.invariant-of-self
-invariant-of-self c = (omega arith, (search (rules, places), (omega arith, (λ e. absurd (omega arith), tt))))
+pub invariant_of-self : goal.invariant_of-self
+invariant_of-self c = (omega arith, (search (rules, places), (omega arith, (λ e. absurd (omega arith), tt))))
 
 pub returns : goal.returns
 returns c =

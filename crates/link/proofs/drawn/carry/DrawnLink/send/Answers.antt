@@ -2,8 +2,8 @@ use Rattle.std.proofs.Common.{ℕ, ◌≤◌, List, length, get_or, sym, ap, ◌
 use Rattle.link.proofs.Draws.{drawn_length, drawn_single}
 use Rattle.link.proofs.drawn.carry.DrawnLink.send.Goals as goal
 
-pub invariant-of-self-2 : goal.invariant-of-self-2
-invariant-of-self-2 c =
+pub invariant_of-self-2 : goal.invariant_of-self-2
+invariant_of-self-2 c =
     let d = c.args.self.now in
     let n = length d.counts in
     let drawn = c.draw-self.ensures.counts in (
