@@ -9,7 +9,7 @@ use Rattle.algebra.specs.Frames.{code_at, Codes, Frame, Frames, InSpan}
 use Rattle.algebra.specs.Rows.{row_at, ReducedForm, rest_at, scaled_at, Inserted}
 use Rattle.algebra.specs.Packets as packets
 use Rattle.algebra.specs.Packets.{Seen, AgreesAll, Bare, BecomesSeen}
-use Rattle.algebra.specs.Theorems.{OneForm, SeenRows, NothingLeft, DeterminedRows, PacketInRow, SomeContents, EmptyForm, SameForm, InsertedForm, InsertedSeen, JoinedForm, SymbolLeft, NoContents}
+use Rattle.algebra.specs.Theorems.{OneForm, SeenRows, NothingLeft, DeterminedRows, PacketInRow, SomeContents, EmptyForm, SameForm, InsertedForm, InsertedSeen, JoinedForm, SymbolLeft, NoContents, AcceptedFrames}
 use Rattle.algebra.proofs.Sums.{summed_none, summed_same}
 use Rattle.algebra.proofs.Vectors.{Vector, All, all_from, all_at, span_under}
 use Rattle.algebra.proofs.Tables.{Table, Reduced, image, Fixed, SeenIn, seen_row, row_seen, one_table, row_fixed, image_fixed}
@@ -387,3 +387,10 @@ no_contents o laws n l fs rs form f frame conflict p agree =
     ∙ summed_same (k o laws) n (λ m. (k o laws).mul (v m) (c m j)) (λ m. (k o laws).mul (vector o laws f m) (c m j))
     (λ m h. ap (λ x. (k o laws).mul x (c m j)) (same_code (conflict.coefficients m h ∙ sym (vector_code o laws f frame.codes m))))
     ∙ sym told) ∙ vector_code o laws f frame.codes (n + j))
+
+pub accepted_frames : AcceptedFrames
+accepted_frames o laws n l fs rs form f frame bare p agree j h =
+    elim (cases_lt 0 (rest_at o n rs f (n + j))) [
+      | inl some ↦ absurd (no_contents o laws n l fs rs form f frame (symbol_left o laws n l fs rs form f frame bare j h some) p agree)
+      | inr none ↦ omega arith
+    ]

@@ -75,3 +75,9 @@ SymbolLeft = (o : Ops) → Lawful o → (n l : ℕ) (fs rows : List (List ℕ)) 
 abbrev pub NoContents : Type 0
 NoContents = (o : Ops) → Lawful o → (n l : ℕ) (fs rows : List (List ℕ)) → ReducedForm o n l fs rows → (f : List ℕ) → Frame o.size (n + l) f
     → Conflicts o n l fs f → (p : Contents o.size) → AgreesAll o n l p (f ∷ fs) → ⊥
+
+-- where contents agree with a frame and with all frames before it, what is left of that frame has no symbol if it has no
+-- coefficient
+abbrev pub AcceptedFrames : Type 0
+AcceptedFrames = (o : Ops) → Lawful o → (n l : ℕ) (fs rows : List (List ℕ)) → ReducedForm o n l fs rows → (f : List ℕ) → Frame o.size (n + l) f
+    → ((i : ℕ) → i < n → rest_at o n rows f i ≡ 0) → (p : Contents o.size) → AgreesAll o n l p (f ∷ fs) → (j : ℕ) → j < l → rest_at o n rows f (n + j) ≡ 0

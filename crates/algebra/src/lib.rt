@@ -1,5 +1,5 @@
 // The linear algebra that elimination rests on: theory alone. Each function's contract is a theorem, over every lawful field.
-ghost use Rattle.algebra.specs.Theorems.{OneForm, SeenRows, OneOldest, NothingLeft, DeterminedRows, PacketInRow, SomeContents, EmptyForm, SameForm, InsertedForm, InsertedSeen, JoinedForm, SymbolLeft, NoContents};
+ghost use Rattle.algebra.specs.Theorems.{OneForm, SeenRows, OneOldest, NothingLeft, DeterminedRows, PacketInRow, SomeContents, EmptyForm, SameForm, InsertedForm, InsertedSeen, JoinedForm, SymbolLeft, NoContents, AcceptedFrames};
 
 // Frames have one reduced form.
 pub fn one_form()
@@ -69,4 +69,9 @@ pub fn symbol_left()
 // No contents agree with frames in conflict.
 pub fn no_contents()
     ensures { NoContents }
+{}
+
+// A frame that agrees with some contents, as all before it do, leaves no symbol without a coefficient.
+pub fn accepted_frames()
+    ensures { AcceptedFrames }
 {}

@@ -1,5 +1,5 @@
 -- What a table of rows does with frames. Assumes nothing.
-use Rattle.std.specs.Prelude.{◌≡◌, ℕ, zero, suc, ◌+◌, ◌-◌, ◌*◌, ◌^◌, cond, ◌&&◌, List, [], ◌∷◌, length, drop, replicate, Ok, Err, vec_items, Result, ◌==◌, nat_le, slice_index_or}
+use Rattle.std.specs.Prelude.{◌≡◌, ℕ, zero, suc, ◌+◌, ◌-◌, ◌*◌, ◌^◌, ◌<◌, cond, ◌&&◌, List, [], ◌∷◌, length, drop, replicate, Ok, Err, vec_items, Result, ◌==◌, nat_le, slice_index_or}
 use Rattle.faults.specs.Refusals.{RefusedBy}
 use Rattle.field.specs.Fields.{Ops}
 use Rattle.field.specs.declared.fault.FieldFault.TheVariants.{CodeTooLarge}
@@ -9,9 +9,9 @@ use Rattle.algebra.specs.Rows.{row_at, ReducedForm}
 use Rattle.elimination.specs.declared.fault.RowsFault.{RowsFault}
 use Rattle.elimination.specs.declared.fault.RowsFault.TheVariants.{NotStarted, WrongSize, WrongLength, NoPacket, NotDetermined, NoMemory, Field}
 use Rattle.elimination.specs.declared.heard.Heard.{Heard}
-use Rattle.elimination.specs.declared.heard.Heard.TheVariants.{New, Spanned, Conflicting}
+use Rattle.elimination.specs.declared.heard.Heard.TheVariants.{New, Spanned, Conflict}
 use Rattle.elimination.specs.declared.table.Table.{Table}
-use Rattle.elimination.specs.Reduction.{lists}
+use Rattle.elimination.specs.Reduction.{lists, rest_row, NoCoefficient, FirstCoefficient, multiple, with_row}
 use Rattle.elimination.specs.Rows.{are_codes}
 
 -- what a table holds: the size of its field, the numbers of packets and of symbols in each, and its rows by lead
@@ -42,8 +42,33 @@ abbrev pub frame_answer : Ops → Held → List ℕ → Result (Unit {0}) RowsFa
 frame_answer o t f =
     cond (o.size == t.size) (cond (length f == t.packets + t.symbols) (cond (are_codes t.size f) (Ok tt) (Err (Field CodeTooLarge))) (Err WrongLength)) (Err NotStarted)
 
+-- the row that a frame puts in with lead a
+abbrev pub row_for : Ops → List (List ℕ) → List ℕ → ℕ → List ℕ
+row_for o rows f a = multiple o (o.inverse (code_at (rest_row o rows f) a)) (rest_row o rows f)
+
+-- a frame of which a coefficient is left is put in, with the first such coefficient as its lead
+pub record PutIn (o : Ops) (rows : List (List ℕ)) (f : List ℕ) (a : ℕ) (after : List (List ℕ)) : Type 0 where
+  pub first : FirstCoefficient (length rows) (rest_row o rows f) a
+  pub rows_are : after ≡ with_row o rows a (row_for o rows f a)
+
+-- a frame of which nothing is left leaves the rows as they are
+pub record NothingNew (o : Ops) (rows : List (List ℕ)) (f : List ℕ) (after : List (List ℕ)) : Type 0 where
+  pub none : NoCoefficient (length f) (rest_row o rows f)
+  pub rows_are : after ≡ rows
+
+-- so does one of which symbols are left and no coefficient
+pub record Conflicting (o : Ops) (rows : List (List ℕ)) (f : List ℕ) (after : List (List ℕ)) : Type 0 where
+  pub no_coefficient : NoCoefficient (length rows) (rest_row o rows f)
+  pub symbol : (i : ℕ) × ((i < length f) × (0 < code_at (rest_row o rows f) i))
+  pub rows_are : after ≡ rows
+
+abbrev pub TakenIn : Ops → List (List ℕ) → List ℕ → Heard → List (List ℕ) → Type 0
+TakenIn o rows f (New a) after = PutIn o rows f a after
+TakenIn o rows f Spanned after = NothingNew o rows f after
+TakenIn o rows f Conflict after = Conflicting o rows f after
+
 -- a frame that shows packet a, counted from 0: the rows are then the reduced form of the rows before and the frame
-pub record PutIn (o : Ops) (t : Held) (f : List ℕ) (a : ℕ) (u : Held) : Type 0 where
+pub record Shows (o : Ops) (t : Held) (f : List ℕ) (a : ℕ) (u : Held) : Type 0 where
   pub form : ReducedForm o t.packets t.symbols (f ∷ t.rows) u.rows
   pub shows : BecomesSeen o t.packets t.rows f a
   pub size : u.size ≡ t.size
@@ -51,14 +76,14 @@ pub record PutIn (o : Ops) (t : Held) (f : List ℕ) (a : ℕ) (u : Held) : Type
   pub symbols : u.symbols ≡ t.symbols
 
 -- what becomes of a frame: it shows a packet, or is in the span, or conflicts with the rows; the latter two leave all as it was
-abbrev pub TakenIn : Ops → Held → List ℕ → Heard → Held → Type 0
-TakenIn o t f (New a) u = PutIn o t f a u
-TakenIn o t f Spanned u = InSpan o t.rows (code_at f) × (u ≡ t)
-TakenIn o t f Conflicting u = Conflicts o t.packets t.symbols t.rows f × (u ≡ t)
+abbrev pub Taken : Ops → Held → List ℕ → Heard → Held → Type 0
+Taken o t f (New a) u = Shows o t f a u
+Taken o t f Spanned u = InSpan o t.rows (code_at f) × (u ≡ t)
+Taken o t f Conflict u = Conflicts o t.packets t.symbols t.rows f × (u ≡ t)
 
 -- a table takes in every frame that is one for it
 abbrev pub TakesIn : Ops → Held → List ℕ → Result Heard RowsFault → Held → Type 0
-TakesIn o t f (Ok h) u = (frame_answer o t f ≡ Ok tt) × TakenIn o t f h u
+TakesIn o t f (Ok h) u = (frame_answer o t f ≡ Ok tt) × Taken o t f h u
 TakesIn o t f (Err e) u = (frame_answer o t f ≡ Err e) × (u ≡ t)
 
 -- the set of the first n packets that are seen: the code of a row at its lead, 1 or 0, is its packet's bit

@@ -6,5 +6,5 @@ pub enum Heard {
     // It is already in the span.
     Spanned,
     // Its coefficients are in the span, and its symbols are not the same combination.
-    Conflicting,
+    Conflict,
 }

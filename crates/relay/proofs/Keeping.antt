@@ -9,7 +9,7 @@ use Rattle.algebra.specs.Rows.{row_at, ReducedForm}
 use Rattle.algebra.proofs.Forms.{seen_rows, nothing_left, determined_rows, packet_in_row, some_contents, empty_form, same_form, joined_form, no_contents}
 use Rattle.elimination.specs.declared.fault.RowsFault.{RowsFault}
 use Rattle.elimination.specs.declared.fault.RowsFault.TheVariants.{Conflict, NotDetermined}
-use Rattle.elimination.specs.Tables.{Held, empty_table, frame_answer, PutIn, seen_set, packet_answer}
+use Rattle.elimination.specs.Tables.{Held, empty_table, frame_answer, Shows, seen_set, packet_answer}
 use Rattle.elimination.proofs.Accepting.{InRange, Fits, frame_passed, frame_passes, packet_passed, packet_passes}
 use Rattle.elimination.proofs.Tabling.{sound_empty, zero_rows}
 use Rattle.relay.specs.Calls.{Hears, HeardBy, seen_answer, Fetches, FetchedBy}
@@ -62,7 +62,7 @@ module _ (o : Ops) (laws : Lawful o) (n l : ℕ) where
       form_same : Frame o.size (n + l) f → InSpan o rows (code_at f) → ReducedForm o n l (f ∷ fs) rows
       form_same frame inside = same_form o laws n l fs rows form f frame ((nothing_left o laws n l rows rows own f frame).0 inside)
 
-      form_more : (a : ℕ) (u : Held) → PutIn o (holding o n l rows).table f a u → ReducedForm o n l (f ∷ fs) u.rows
+      form_more : (a : ℕ) (u : Held) → Shows o (holding o n l rows).table f a u → ReducedForm o n l (f ∷ fs) u.rows
       form_more a u put = joined_form o laws n l fs rows form f u.rows put.form
 
       acceptable : (others : List (List ℕ)) → Frame o.size (n + l) f → ReducedForm o n l (f ∷ fs) others → Acceptable o n l fs f

@@ -8,7 +8,7 @@ use Rattle.algebra.proofs.Forms.{determined_rows, packet_in_row}
 use Rattle.elimination.specs.declared.fault.RowsFault.{RowsFault}
 use Rattle.elimination.specs.declared.fault.RowsFault.TheVariants.{NotDetermined}
 use Rattle.elimination.specs.Sound.{Sound}
-use Rattle.elimination.specs.Tables.{Held, frame_answer, PutIn, packet_answer, symbols_of, Fetched}
+use Rattle.elimination.specs.Tables.{Held, frame_answer, Shows, packet_answer, symbols_of, Fetched}
 use Rattle.elimination.proofs.Accepting.{frame_passed, packet_passed}
 use Rattle.elimination.proofs.Tabling.{own}
 use Rattle.relay.specs.Calls.{Hears, Fetches, FetchedBy, Holds}
@@ -19,7 +19,7 @@ pub started_at : (o : Ops) (t : Held) → o.size ≡ t.size → state_of o t ≡
 started_at o t e = cond-true (eqb o.size t.size) (Some (record { ops = o; table = t })) None (eq-eqb o.size t.size e)
 
 -- a frame that is put in shows its lead, counted from 1
-pub shown : (o : Ops) (t u : Held) (f : List ℕ) (a : ℕ) → frame_answer o t f ≡ Ok tt → PutIn o t f a u → Hears (state_of o t) f (Ok (a + 1)) (state_of o u)
+pub shown : (o : Ops) (t u : Held) (f : List ℕ) (a : ℕ) → frame_answer o t f ≡ Ok tt → Shows o t f a u → Hears (state_of o t) f (Ok (a + 1)) (state_of o u)
 shown o t u f a ok put =
     let fits = frame_passed o t f (sym ok) in
     subst₂ (λ s r. Hears s f (Ok r) (state_of o u)) (sym (started_at o t fits.field)) (sym (add-one a))

@@ -6,7 +6,7 @@ use Rattle.algebra.specs.Frames.{code_at, InSpan}
 use Rattle.algebra.specs.Packets.{Contents, AgreesAll, Determined, Conflicts}
 use Rattle.elimination.specs.declared.fault.RowsFault.{RowsFault}
 use Rattle.elimination.specs.declared.fault.RowsFault.TheVariants.{NotStarted, Conflict, NotDetermined, NoMemory}
-use Rattle.elimination.specs.Tables.{Held, size_answer, empty_table, frame_answer, PutIn, seen_set, packet_answer}
+use Rattle.elimination.specs.Tables.{Held, size_answer, empty_table, frame_answer, Shows, seen_set, packet_answer}
 use Rattle.relay.specs.States.{State}
 
 -- a start leaves an empty table; refused, it leaves what was there
@@ -19,7 +19,7 @@ Starts o n l s (Err e) t = RefusedBy (size_answer n l) (λ e. e ≡ NoMemory) e 
 abbrev pub HeardBy : State → List ℕ → Result ℕ RowsFault → Option State → Type 0
 HeardBy s f (Ok zero) t = (frame_answer s.ops s.table f ≡ Ok tt) × InSpan s.ops s.table.rows (code_at f) × (t ≡ Some s)
 HeardBy s f (Ok (suc a)) t =
-    (frame_answer s.ops s.table f ≡ Ok tt) × ((u : Held) × (PutIn s.ops s.table f a u × (t ≡ Some (record { ops = s.ops; table = u }))))
+    (frame_answer s.ops s.table f ≡ Ok tt) × ((u : Held) × (Shows s.ops s.table f a u × (t ≡ Some (record { ops = s.ops; table = u }))))
 HeardBy s f (Err e) t =
     RefusedBy (frame_answer s.ops s.table f) (λ e. (e ≡ Conflict) × Conflicts s.ops s.table.packets s.table.symbols s.table.rows f) e × (t ≡ Some s)
 

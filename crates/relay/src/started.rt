@@ -22,7 +22,7 @@ impl<F: Field> Started<F> {
         match self.table.take_in(&self.field, frame)? {
             Heard::New(lead) => Ok(lead + 1),
             Heard::Spanned => Ok(0),
-            Heard::Conflicting => Err(RowsFault::Conflict),
+            Heard::Conflict => Err(RowsFault::Conflict),
         }
     }
 

@@ -1,5 +1,6 @@
 // A table without rows.
-ghost use Rattle.std.specs.Prelude.{◌≡◌, ◌≤◌, IfOk};
+ghost use Rattle.std.specs.Prelude.{◌≡◌, ◌+◌, ◌≤◌, replicate, IfOk};
+ghost use Rattle.elimination.specs.Reduction.{lists};
 ghost use Rattle.elimination.specs.Tables.{held, size_answer, empty_table, Built};
 
 use super::super::fault::RowsFault;
@@ -28,7 +29,11 @@ impl Table {
         requires few_packets { packets ≤ 32 }
         requires some_symbols { 1 ≤ symbols }
         requires few_symbols { symbols ≤ 32 }
-        ensures { IfOk result (λ t. held t ≡ empty_table q packets symbols) }
+        ensures size { IfOk result (λ t. t.q ≡ q) }
+        ensures packets { IfOk result (λ t. t.packets ≡ packets) }
+        ensures symbols { IfOk result (λ t. t.symbols ≡ symbols) }
+        ensures rows { IfOk result (λ t. lists t.rows.items ≡ replicate packets (replicate (packets + symbols) 0)) }
+        ensures table { IfOk result (λ t. held t ≡ empty_table q packets symbols) }
     {
         let mut rows = Vec::new(heap);
         for _row in 0..packets {

@@ -1,7 +1,8 @@
 // A table takes in a frame.
 ghost use Rattle.std.specs.Prelude.{◌≡◌, ◌+◌};
 ghost use Rattle.algebra.specs.Frames.{Frame};
-ghost use Rattle.elimination.specs.Tables.{held, frame_answer, TakenIn, TakesIn};
+ghost use Rattle.elimination.specs.Reduction.{lists};
+ghost use Rattle.elimination.specs.Tables.{held, frame_answer, TakenIn, Taken, TakesIn};
 
 use super::super::codes::check_codes;
 use super::super::fault::RowsFault;
@@ -35,9 +36,13 @@ impl Table {
 
     // Takes in a frame that is one for this table.
     fn put_in<F: Field>(&mut self, field: &F, frame: &[u16]) -> Heard
-        requires field { (F.ops field.now).size ≡ self.old.q }
+        requires field { self.old.q ≡ (F.ops field.now).size }
         requires frame { Frame self.old.q (self.old.packets + self.old.symbols) frame.now }
-        ensures { TakenIn (F.ops field.now) (held self.old) frame.now result (held self.new) }
+        ensures rows { TakenIn (F.ops field.now) (lists self.old.rows.items) frame.now result (lists self.new.rows.items) }
+        ensures size { self.new.q ≡ self.old.q }
+        ensures packets { self.new.packets ≡ self.old.packets }
+        ensures symbols { self.new.symbols ≡ self.old.symbols }
+        ensures taken { Taken (F.ops field.now) (held self.old) frame.now result (held self.new) }
     {
         let mut buffer = [0; 64];
         let row = &mut buffer[0..self.packets + self.symbols];
@@ -45,7 +50,7 @@ impl Table {
             return if all_zero(row) {
                 Heard::Spanned
             } else {
-                Heard::Conflicting
+                Heard::Conflict
             };
         };
         insert(field, self.rows.as_mut_slice(), lead, row);

@@ -34,8 +34,8 @@ bounds-table-a g c =
     let h : c.args.a < length c.args.table.now = subst (λ (n : ℕ). c.args.a < n) (length-map c.args.table.now vec_items) c.requires.within in
     search rules
 
-pub offset-bounds-table-a : goal.offset-bounds-table-a
-offset-bounds-table-a g c =
+pub offset_bounds-table-a : goal.offset_bounds-table-a
+offset_bounds-table-a g c =
     let h : c.args.a < length c.args.table.now = subst (λ (n : ℕ). c.args.a < n) (length-map c.args.table.now vec_items) c.requires.within in
     search rules
 

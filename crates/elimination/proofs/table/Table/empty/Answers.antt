@@ -1,4 +1,4 @@
-use Rattle.std.proofs.Common.{◌≡◌, ◌+◌, [], ◌∷◌, ◌++◌, replicate, vec_items, vec_len, sym, ap, ◌∙◌, subst, ap₂, arith}
+use Rattle.std.proofs.Common.{◌≡◌, ◌+◌, [], ◌∷◌, ◌++◌, replicate, vec_items, vec_len, sym, refl, ap, ◌∙◌, subst, ap₂, arith}
 use Rattle.std.proofs.lemmas.List.{map_push, replicate_more}
 use Rattle.elimination.specs.Reduction.{lists}
 use Rattle.elimination.specs.Sound.{Sound}
@@ -18,23 +18,25 @@ pub invariant_of-result : goal.invariant_of-result
 invariant_of-result c =
     let n = c.args.packets in
     let l = c.args.symbols in
-    let all : c.loop-row._row ≡ n = omega arith in (
-      c.requires.few_packets,
-      (
-        c.requires.few_symbols,
-        (
-          c.requires.some_symbols,
-          (
-            c.loop-row.invariant.0 ∙ all,
-            (∣ subst (Sound c.args.q n l) (sym (c.loop-row.invariant.1 ∙ ap (λ m. replicate m (replicate (n + l) 0)) all)) (sound_empty c.args.q n l c.requires.size) ∣₁, tt),
-          ),
-        ),
-      ),
-    )
+    let all : c.loop-row._row ≡ n = omega arith in
+    record {
+      few_packets = c.requires.few_packets;
+      few_symbols = c.requires.few_symbols;
+      some_symbols = c.requires.some_symbols;
+      tall = c.loop-row.invariant.0 ∙ all;
+      sound = ∣ subst (Sound c.args.q n l) (sym (c.loop-row.invariant.1 ∙ ap (λ m. replicate m (replicate (n + l) 0)) all)) (sound_empty c.args.q n l c.requires.size) ∣₁;
+    }
 
 pub returns : goal.returns
 returns c =
     let n = c.args.packets in
     let l = c.args.symbols in
     let all : c.loop-row._row ≡ n = omega arith in
-    ap (λ rows. record { size = c.args.q; packets = n; symbols = l; rows = rows }) (c.loop-row.invariant.1 ∙ ap (λ m. replicate m (replicate (n + l) 0)) all)
+    let rows = c.loop-row.invariant.1 ∙ ap (λ m. replicate m (replicate (n + l) 0)) all in
+    record {
+      size = refl;
+      packets = refl;
+      symbols = refl;
+      rows = rows;
+      table = ap (λ rows. record { size = c.args.q; packets = n; symbols = l; rows = rows }) rows;
+    }

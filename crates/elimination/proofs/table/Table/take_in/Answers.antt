@@ -1,3 +1,4 @@
+use Rattle.std.proofs.Common.{sym}
 use Rattle.elimination.specs.Tables.{held}
 use Rattle.elimination.proofs.Accepting.{frame_passed}
 use Rattle.elimination.proofs.table.Table.take_in.Goals as goal
@@ -5,4 +6,4 @@ use Rattle.elimination.proofs.table.Table.take_in.Goals as goal
 pub put_in-requires : goal.put_in-requires
 put_in-requires g c =
     let fits = frame_passed (g.F.Field.ops c.args.field.now) (held c.args.self.now) c.args.frame.now c.in_ok-check_frame.ensures in
-    record { field = fits.field; frame = fits.frame }
+    record { field = sym fits.field; frame = fits.frame }

@@ -1,5 +1,5 @@
 use Rattle.std.proofs.Common.{◌≡◌, sym, subst}
-use Rattle.elimination.specs.Tables.{held, TakenIn}
+use Rattle.elimination.specs.Tables.{held, Taken}
 use Rattle.relay.proofs.Passing.{shown}
 use Rattle.relay.proofs.started.Started.hear.Goals as goal
 
@@ -10,4 +10,4 @@ returns-in-New g c =
     let u = held c.take_in.new.self in
     let f = c.args.frame.now in
     let taken = c.in_ok-lead.ensures in
-    shown o t u f c.in-New.lead taken.0 (subst (λ h. TakenIn o t f h u) c.in-New.is taken.1)
+    shown o t u f c.in-New.lead taken.0 (subst (λ h. Taken o t f h u) c.in-New.is taken.1)
