@@ -3,12 +3,12 @@ use Rattle.decode.specs.Listing.{codes_text, symbols_text}
 use Rattle.decode.proofs.Pushing.{pushed_as}
 use Rattle.decode.proofs.listing.push_symbols.Goals as goal
 
-pub returns-in_ok-push_codes : goal.returns-in_ok-push_codes
-returns-in_ok-push_codes c =
+pub returns-in_ok-push_codes-in-Some : goal.returns-in_ok-push_codes-in-Some
+returns-in_ok-push_codes-in-Some c =
     let a = string_bytes c.args.text.now in
-    pushed_as a c.in_ok-push_codes.ensures (ap codes_text c.as_slice.ensures.value ∙ ap symbols_text (sym c.in-Some.is))
+    pushed_as a c.in_ok-push_codes-in-Some.ensures (ap codes_text c.as_slice.ensures.value ∙ ap symbols_text (sym c.in-Some.is))
 
-pub returns-in_ok-push_str : goal.returns-in_ok-push_str
-returns-in_ok-push_str c =
+pub returns-in_ok-push_str-in-None : goal.returns-in_ok-push_str-in-None
+returns-in_ok-push_str-in-None c =
     let a = string_bytes c.args.text.now in
-    pushed_as a c.in_ok-push_str.ensures.bytes (ap symbols_text (sym c.in-None.is))
+    pushed_as a c.in_ok-push_str-in-None.ensures.bytes (ap symbols_text (sym c.in-None.is))

@@ -3,7 +3,7 @@ use Rattle.elimination.proofs.Subtraction.{never_refused}
 use Rattle.repair.specs.Coding.{multiple}
 use Rattle.repair.proofs.Repairs.{Taking, taking_none, some_fit, some_turn, none_turn, taking_all, inverse_there, inverse_code_there, as_sent}
 use Rattle.repair.proofs.coding.rebuild.Goals as goal
-use Rattle.repair.proofs.coding.rebuild.Goals.{in-Some+in_ok-subtract_multiple, in-None}
+use Rattle.repair.proofs.coding.rebuild.Goals.{in-Some+in_ok-subtract_multiple-in-Some, in-None}
 
 pub returns-then-coefficients-received : goal.returns-then-coefficients-received
 returns-then-coefficients-received g c sent l here =
@@ -28,27 +28,27 @@ loop-k-preserved g c =
     let coded = c.args.coded.now in
     let k = c.loop-k.k in
     elim c.match-received-k.branch [
-      | in-Some+in_ok-subtract_multiple w ↦ (
+      | in-Some+in_ok-subtract_multiple-in-Some w ↦ (
         search rules,
         λ sent l here.
             let ok = here.sendable in
             let h = subst (λ (n : ℕ). k < n) (as_sent o laws cs sent ok l received coded here) c.loop-k-test.true in
-            subst₂ (Taking o laws cs sent ok l received coded here (k + 1)) (sym w.lost-is) (sym w.rest_is)
+            subst₂ (Taking o laws cs sent ok l received coded here (k + 1)) (sym w.lost-is) (sym w.rest-is)
             (some_turn o laws cs sent ok l received coded here k c.loop-k.lost c.loop-k.rest (c.loop-k.invariant.1 sent l here) h
-            w.in-Some.packet w.subtract_multiple.new.target w.in-Some.is w.in_ok-subtract_multiple.ensures.after),
+            w.in-Some.packet w.subtract_multiple.new.target w.in-Some.is w.in_ok-subtract_multiple-in-Some.ensures.after),
       )
       | in-None w ↦ (
         search rules,
         λ sent l here.
             let ok = here.sendable in
             let h = subst (λ (n : ℕ). k < n) (as_sent o laws cs sent ok l received coded here) c.loop-k-test.true in
-            subst₂ (Taking o laws cs sent ok l received coded here (k + 1)) (sym w.lost-is) (sym w.rest_is)
+            subst₂ (Taking o laws cs sent ok l received coded here (k + 1)) (sym w.lost-is) (sym w.rest-is)
             (none_turn o laws cs sent ok l received coded here k c.loop-k.lost c.loop-k.rest (c.loop-k.invariant.1 sent l here) h w.in-None.is),
       )
     ]
 
-pub returns-in_err-subtract_multiple : goal.returns-in_err-subtract_multiple
-returns-in_err-subtract_multiple g c sent l here =
+pub returns-in_err-subtract_multiple-in-Some : goal.returns-in_err-subtract_multiple-in-Some
+returns-in_err-subtract_multiple-in-Some g c sent l here =
     let o = g.F.Field.ops c.args.field.now in
     let laws = g.met.F.Field.lawful c.args.field.now in
     let cs = c.args.coefficients.now in
@@ -57,9 +57,9 @@ returns-in_err-subtract_multiple g c sent l here =
     let k = c.loop-k.k in
     let ok = here.sendable in
     let h = subst (λ (n : ℕ). k < n) (as_sent o laws cs sent ok l received coded here) c.loop-k-test.true in
-    absurd (never_refused o.size c.loop-k.rest (get_or cs k 0) c.in-Some.packet c.in_err-subtract_multiple.field-0.0
+    absurd (never_refused o.size c.loop-k.rest (get_or cs k 0) c.in-Some.packet c.in_err-subtract_multiple-in-Some.field-0.0
     (some_fit o laws cs sent ok l received coded here k c.loop-k.lost c.loop-k.rest (c.loop-k.invariant.1 sent l here) h c.in-Some.packet c.in-Some.is)
-    c.in_err-subtract_multiple.ensures.answer)
+    c.in_err-subtract_multiple-in-Some.ensures.answer)
 
 pub returns-in_err-inverse : goal.returns-in_err-inverse
 returns-in_err-inverse g c sent l here =

@@ -3,7 +3,12 @@ use Rattle.std.proofs.lemmas.List.{places, take_at}
 use Rattle.link.proofs.slots.Slots.send.Goals as goal
 
 pub invariant_of-self : goal.invariant_of-self
-invariant_of-self c = (omega arith, (search (rules, places), (omega arith, (λ e. absurd (omega arith), tt))))
+invariant_of-self c = record {
+  within = omega arith;
+  room = search (rules, places);
+  short = omega arith;
+  fresh = λ e. absurd (omega arith);
+}
 
 pub returns : goal.returns
 returns c =
