@@ -1,5 +1,5 @@
 -- From codes to elements and back: sums, combinations, spans and tables mean the same on both sides. Assumes nothing.
-use Rattle.std.proofs.Common.{◌≡◌, ℕ, zero, suc, ◌+◌, ◌<◌, ◌≤◌, ◌⊎◌, List, [], ◌∷◌, map, length, get_or, sym, refl, ap, ◌∙◌, subst, ap₂, inl, inr, le_trans, le_of_suc-le-suc, not-suc-le-zero, arith, lit≤}
+use Rattle.std.proofs.Common.{◌≡◌, ℕ, zero, suc, ◌+◌, ◌<◌, ◌⊎◌, List, [], ◌∷◌, map, length, get_or, sym, refl, ap, ◌∙◌, subst, ap₂, inl, inr, le_trans, not-suc-le-zero, arith, lit≤}
 use Rattle.std.proofs.lemmas.Bool.{cases_lt}
 use Rattle.std.proofs.lemmas.List.{get_or_past, get_or-map, length-map}
 use Rattle.field.specs.Fields.{Ops, Lawful}
@@ -10,7 +10,7 @@ use Rattle.algebra.specs.Frames.{code_at, Codes, Frames, InSpan}
 use Rattle.algebra.specs.Rows as rows
 use Rattle.algebra.specs.Rows.{row_at, SameSpan, ReducedForm}
 use Rattle.algebra.proofs.Sums.{summed, summed_same}
-use Rattle.algebra.proofs.Vectors.{Vector, Linear, same, all_from, combination, combination_summed, Span, span_least}
+use Rattle.algebra.proofs.Vectors.{Vector, all_from, combination, combination_summed, Span, span_least}
 use Rattle.algebra.proofs.Tables.{Table, Reduced, image, Fixed, fixed_linear, row_fixed}
 use Rattle.algebra.proofs.Insertion.{Stands}
 

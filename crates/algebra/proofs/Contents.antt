@@ -1,10 +1,10 @@
 -- Contents that agree with frames, and packets that are determined by them. Assumes nothing.
-use Rattle.std.proofs.Common.{◌≡◌, ℕ, zero, suc, ◌+◌, ◌<◌, Bool, true, false, cond, eqb, ◌⊎◌, List, [], ◌∷◌, sym, refl, ap, ◌∙◌, subst, ap₂, inl, inr, arith}
-use Rattle.std.proofs.lemmas.Bool.{cases_eq, eq-eqb, ne_eqb, cond-true, cond-false}
+use Rattle.std.proofs.Common.{◌≡◌, ℕ, ◌+◌, ◌<◌, cond, eqb, List, sym, refl, ap, ◌∙◌, ap₂}
+use Rattle.std.proofs.lemmas.Bool.{eq-eqb, ne_eqb, cond-true, cond-false}
 use Rattle.field.proofs.Arithmetic.{Arithmetic, zero-add, zero-mul, mul-zero, one-mul, add-mul, sub_self, sub_zero_same, add_cancel, mul_sub}
 use Rattle.algebra.proofs.Sums.{summed, summed_same, summed_none, summed_add, summed_sub, summed_mul, summed_at}
 use Rattle.algebra.proofs.Vectors.{Vector, Linear, All, Span, span_each, span_least, all_weaker}
-use Rattle.algebra.proofs.Tables.{Table, Reduced, image, Fixed, fixed_linear, row_fixed}
+use Rattle.algebra.proofs.Tables.{Table, Reduced, image, Fixed, row_fixed}
 use Rattle.algebra.proofs.Insertion.{Stands}
 
 module _ {F : Type 0} (k : Arithmetic F) (n l : ℕ) where

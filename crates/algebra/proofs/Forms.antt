@@ -1,5 +1,5 @@
 -- The theorems on reduced forms, from elements to codes. Assumes nothing.
-use Rattle.std.proofs.Common.{◌≡◌, ℕ, zero, suc, ◌+◌, ◌<◌, ◌≤◌, List, [], ◌∷◌, map, length, get_or, sym, refl, ap, ◌∙◌, subst, ap₂, inl, inr, suc-le-suc, le_of_suc-le-suc, not-suc-le-zero, arith}
+use Rattle.std.proofs.Common.{◌≡◌, ℕ, zero, suc, ◌+◌, ◌<◌, ◌≤◌, List, [], ◌∷◌, map, length, get_or, sym, ap, ◌∙◌, subst, ap₂, inl, inr, suc-le-suc, le_of_suc-le-suc, not-suc-le-zero, arith}
 use Rattle.std.proofs.lemmas.Bool.{cases_eq, cases_lt}
 use Rattle.std.proofs.lemmas.List.{ext_get_or, get_or-map, get_or_past, length-map}
 use Rattle.field.specs.Fields.{Ops, Lawful}
@@ -12,7 +12,7 @@ use Rattle.algebra.specs.Packets.{Seen, AgreesAll, Bare, BecomesSeen}
 use Rattle.algebra.specs.Theorems.{OneForm, SeenRows, NothingLeft, DeterminedRows, PacketInRow, SomeContents, EmptyForm, SameForm, InsertedForm, InsertedSeen, JoinedForm, SymbolLeft, NoContents, AcceptedFrames}
 use Rattle.algebra.proofs.Sums.{summed_none, summed_same}
 use Rattle.algebra.proofs.Vectors.{Vector, All, all_from, all_at, span_under}
-use Rattle.algebra.proofs.Tables.{Table, Reduced, image, Fixed, SeenIn, seen_row, row_seen, one_table, row_fixed, image_fixed}
+use Rattle.algebra.proofs.Tables.{Reduced, image, Fixed, SeenIn, seen_row, row_seen, one_table, row_fixed, image_fixed}
 use Rattle.algebra.proofs.Insertion.{Stands, stands_none, stands_same, rest, rest_lead, fixed_rest, rest_fixed, scaled, reduced_inserted, stands_inserted}
 use Rattle.algebra.proofs.Contents.{Contents, Agrees, Determined, own, own_agrees, agrees_span, agrees_frames, bare_packet, determined_unit, bare_determined, unit, unit_same, unit_other}
 use Rattle.algebra.proofs.Bridge.{k, table, vector, vector_code, summed_code, span_up, span_down, row_code, reduced_up, reduced_down, stands_up, stands_down}

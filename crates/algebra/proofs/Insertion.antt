@@ -1,7 +1,7 @@
 -- What is left of a frame by the rows, and a table with one frame more. Assumes nothing.
-use Rattle.std.proofs.Common.{◌≡◌, ℕ, zero, suc, ◌<◌, ◌⊎◌, List, [], ◌∷◌, sym, refl, ap, ◌∙◌, subst, ap₂, inl, inr, arith}
+use Rattle.std.proofs.Common.{◌≡◌, ℕ, ◌<◌, ◌⊎◌, List, [], ◌∷◌, sym, ap, ◌∙◌, subst, ap₂, inl, inr, arith}
 use Rattle.std.proofs.lemmas.Bool.{cases_eq, cases_lt}
-use Rattle.field.proofs.Arithmetic.{Arithmetic, zero-add, zero-mul, mul-zero, one-mul, sub_self, sub-zero, sub_zero_same}
+use Rattle.field.proofs.Arithmetic.{Arithmetic, zero-mul, mul-zero, one-mul, sub_self, sub-zero, sub_zero_same}
 use Rattle.algebra.proofs.Sums.{summed_none}
 use Rattle.algebra.proofs.Vectors.{Vector, Linear, same, minus, sums, All, Span, span_linear, span_more, span_first, span_each, span_least, all_weaker}
 use Rattle.algebra.proofs.Tables.{Table, Reduced, image, Fixed, fixed_linear, image_lead, row_fixed, image_fixed}

@@ -3,7 +3,7 @@ use Rattle.std.proofs.Common.{◌≡◌, ℕ, zero, suc, ◌<◌, ◌≤◌, ◌
 use Rattle.std.proofs.lemmas.Bool.{cases_eq, cases_lt}
 use Rattle.field.specs.Fields.{Ops, Lawful}
 use Rattle.algebra.specs.Packets.{Seen, OldestUnseen}
-use Rattle.algebra.specs.Rows.{row_at, ReducedForm}
+use Rattle.algebra.specs.Rows.{ReducedForm}
 use Rattle.algebra.specs.Theorems.{OneOldest}
 use Rattle.algebra.proofs.Forms.{seen_rows}
 

@@ -1,9 +1,9 @@
 -- Tables of rows by lead, in reduced form: membership is an equation, the form is unique, and a row can be put in. Assumes nothing.
-use Rattle.std.proofs.Common.{◌≡◌, ℕ, zero, suc, ◌<◌, ◌⊎◌, List, [], ◌∷◌, sym, refl, ap, ◌∙◌, subst, ap₂, inl, inr, arith}
-use Rattle.std.proofs.lemmas.Bool.{cases_eq, cases_order, cases_lt}
-use Rattle.field.proofs.Arithmetic.{Arithmetic, zero-add, zero-mul, mul-zero, one-mul, add-mul, sub_self, sub_zero_same}
-use Rattle.algebra.proofs.Sums.{summed, summed_same, summed_none, summed_add, summed_mul, summed_swap, summed_at}
-use Rattle.algebra.proofs.Vectors.{Vector, Linear, same, minus, sums, All, Span, span_linear, span_more, span_first, span_each, span_least, all_weaker}
+use Rattle.std.proofs.Common.{◌≡◌, ℕ, ◌<◌, ◌⊎◌, sym, ap, ◌∙◌, ap₂, inl, inr}
+use Rattle.std.proofs.lemmas.Bool.{cases_eq, cases_order}
+use Rattle.field.proofs.Arithmetic.{Arithmetic, zero-mul, mul-zero, one-mul, add-mul, sub_self, sub_zero_same}
+use Rattle.algebra.proofs.Sums.{summed, summed_same, summed_none, summed_add, summed_mul, summed_at}
+use Rattle.algebra.proofs.Vectors.{Vector, Linear, minus, sums}
 
 -- row m of a table is t m; a row that is not there is zero
 abbrev pub Table : Type 0 → Type 0

@@ -1,4 +1,6 @@
 // The linear algebra that elimination rests on: theory alone. Each function's contract is a theorem, over every lawful field.
+#![tactic(auto)]
+
 ghost use Rattle.algebra.specs.Theorems.{OneForm, SeenRows, OneOldest, NothingLeft, DeterminedRows, PacketInRow, SomeContents, EmptyForm, SameForm, InsertedForm, InsertedSeen, JoinedForm, SymbolLeft, NoContents, AcceptedFrames};
 
 // Frames have one reduced form.

@@ -1,5 +1,5 @@
 -- Texts pushed one after another. Assumes nothing.
-use Rattle.std.proofs.Common.{◌≡◌, ℕ, zero, suc, ◌+◌, List, [], ◌∷◌, ◌++◌, sym, refl, ap, ◌∙◌, append_assoc, append-nil, add-one}
+use Rattle.std.proofs.Common.{◌≡◌, ℕ, ◌+◌, List, [], ◌++◌, sym, ap, ◌∙◌, append_assoc, append-nil, add-one}
 use Rattle.decode.specs.Listing.{joined}
 
 -- what is pushed, told otherwise

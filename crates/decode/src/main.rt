@@ -1,4 +1,6 @@
 // A relay hears recorded frames, and reads the packets that they determine.
+#![tactic(auto)]
+
 ghost use Rattle.std.specs.Prelude.{IfOk, string_bytes};
 ghost use Rattle.decode.specs.Listing.{Told};
 

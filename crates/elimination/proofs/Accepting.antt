@@ -1,11 +1,10 @@
 -- What the tests of a table's calls let pass. Assumes nothing.
-use Rattle.std.proofs.Common.{◌≡◌, ℕ, ◌+◌, ◌-◌, ◌<◌, ◌≤◌, Bool, true, cond, ◌&&◌, eqb, leb, List, length, Ok, Err, Result, sym, refl, ap, ◌∙◌, subst, arith}
+use Rattle.std.proofs.Common.{◌≡◌, ℕ, ◌+◌, ◌≤◌, cond, ◌&&◌, eqb, leb, List, length, Ok, Err, ◌∙◌}
 use Rattle.std.proofs.lemmas.Bool.{eqb-true, eq-eqb, leb-true, le-leb, and_parts, and_from, cond-true}
 use Rattle.faults.proofs.Passed.{passed}
 use Rattle.field.specs.Fields.{Ops}
 use Rattle.field.specs.declared.fault.FieldFault.TheVariants.{CodeTooLarge}
 use Rattle.algebra.specs.Frames.{Codes, Frame}
-use Rattle.elimination.specs.declared.fault.RowsFault.{RowsFault}
 use Rattle.elimination.specs.declared.fault.RowsFault.TheVariants.{NotStarted, WrongSize, WrongLength, NoPacket, Field}
 use Rattle.elimination.specs.Rows.{are_codes, pair_answer}
 use Rattle.elimination.specs.Tables.{Held, size_answer, frame_answer, packet_answer}

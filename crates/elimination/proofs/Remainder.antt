@@ -1,5 +1,5 @@
 -- What is left of a frame, row after row. Assumes nothing.
-use Rattle.std.proofs.Common.{◌≡◌, ℕ, zero, suc, ◌+◌, ◌<◌, ◌≤◌, List, [], map, length, get_or, vec_items, Vec, sym, refl, ap, ◌∙◌, subst, ap₂, le_trans, add-one, arith, lit≤}
+use Rattle.std.proofs.Common.{◌≡◌, ℕ, zero, suc, ◌+◌, ◌<◌, ◌≤◌, List, [], length, get_or, vec_items, Vec, sym, refl, ap, ◌∙◌, subst, le_trans, add-one, arith, lit≤}
 use Rattle.std.specs.declared.alloc.Global.{Global}
 use Rattle.std.proofs.lemmas.List.FromFn.{fill_by_all, length-map-range_with_len}
 use Rattle.std.proofs.lemmas.List.{get_or-map, length-map}
@@ -10,7 +10,7 @@ use Rattle.algebra.specs.Frames.{code_at, Codes, summed}
 use Rattle.algebra.specs.Rows.{row_at, rest_at}
 use Rattle.elimination.specs.Rows.{Subtractable, less_multiple}
 use Rattle.elimination.specs.Reduction.{lists, Reducible, rest_row}
-use Rattle.elimination.proofs.Subtraction.{less_closed, get_or_less, length_less}
+use Rattle.elimination.proofs.Subtraction.{get_or_less, length_less}
 
 -- a row that is read from a table
 pub read_row : (table : List (Vec ℕ Global)) (m : ℕ) (v : Vec ℕ Global) (row : List ℕ) → m < length table → v ≡ get_or table m v → row ≡ vec_items v → row ≡ get_or (lists table) m []

@@ -1,5 +1,5 @@
 -- A sound table stays sound when a frame puts a row in. Assumes nothing.
-use Rattle.std.proofs.Common.{◌≡◌, ℕ, ◌+◌, ◌-◌, ◌<◌, ◌≤◌, ◌⊎◌, List, [], ◌∷◌, map, length, get_or, set, replicate, vec_items, Vec, sym, refl, ap, ◌∙◌, subst, ap₂, inl, inr, le_trans, arith}
+use Rattle.std.proofs.Common.{◌≡◌, ℕ, ◌+◌, ◌-◌, ◌<◌, ◌≤◌, ◌⊎◌, List, [], ◌∷◌, map, length, get_or, replicate, vec_items, Vec, sym, refl, ap, ◌∙◌, subst, ap₂, inl, inr, arith}
 use mathlib.Core.HLevel.{Π_prop}
 use mathlib.Core.Logic.{∥∥₁_elim}
 use native.Mathlib.Bridge.{le_prop}
@@ -11,9 +11,8 @@ use Rattle.std.proofs.lemmas.Bool.{cases_eq, cases_lt}
 use Rattle.field.specs.Fields.{Ops, Lawful}
 use Rattle.algebra.specs.Frames.{code_at, Codes, Frame, Frames, InSpan}
 use Rattle.algebra.specs.Packets.{BecomesSeen, Conflicts}
-use Rattle.algebra.specs.Rows.{row_at, Reduced, ReducedForm, SameSpan, rest_at, scaled_at, Inserted}
+use Rattle.algebra.specs.Rows.{row_at, Reduced, ReducedForm, rest_at, scaled_at, Inserted}
 use Rattle.algebra.proofs.Forms.{inserted_form, inserted_seen, nothing_left, rest_past, symbol_left}
-use Rattle.elimination.specs.Rows.{less_multiple}
 use Rattle.elimination.specs.Reduction.{lists, rest_row, NoCoefficient, FirstCoefficient, multiple, Insertable, with_row, Spanned, NewRow}
 use Rattle.elimination.specs.Sound.{Sound}
 use Rattle.elimination.proofs.Remainder.{length_rest, read_row}

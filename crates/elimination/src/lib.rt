@@ -1,4 +1,6 @@
 // Row elimination over code slices, written once for every lawful field.
+#![tactic(auto)]
+
 mod codes;
 pub mod fault;
 pub mod heard;

@@ -1,5 +1,7 @@
 // What a refusal is: which layer found it, its number, and, for a fault in a text, the line and the field.
 // Every layer has a fault enum of its own; what they share is the trait `Fault`.
+#![tactic(auto)]
+
 ghost use Rattle.std.specs.Prelude.{◌≡◌};
 ghost use Rattle.faults.specs.declared.Refusal.{Refusal};
 ghost use Rattle.faults.specs.Refusals.{layer_name, plain, in_text};

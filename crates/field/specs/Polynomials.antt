@@ -1,7 +1,7 @@
 -- GF(256) is a lawful field: every piece of its product is additive over exclusive or, so the laws hold for all codes once
 -- they hold for the powers of x, which antt computes. Assumes nothing.
-use Rattle.std.specs.Prelude.{◌≡◌, ℕ, zero, suc, ◌+◌, ◌-◌, ◌*◌, ◌/◌, ◌%◌, ◌^◌, ◌<◌, ◌≤◌, Bool, T, ◌==◌, nat_lt, refl}
-use Rattle.std.proofs.Common.{sym, ap, ap₂, ◌∙◌, subst, add-zero, zero-mul, mul-zero, one-mul, mod-lt, mul_comm, pow-suc, div-lt_iff_lt-mul, arith, eqb→eq, ltb→lt, lit<, lit≤, pow_pos}
+use Rattle.std.specs.Prelude.{◌≡◌, ℕ, zero, suc, ◌+◌, ◌*◌, ◌/◌, ◌%◌, ◌^◌, ◌<◌, Bool, T, ◌==◌, nat_lt, refl}
+use Rattle.std.proofs.Common.{sym, ap, ap₂, ◌∙◌, subst, add-zero, zero-mul, one-mul, mod-lt, mul_comm, pow-suc, div-lt_iff_lt-mul, arith, eqb→eq, ltb→lt, lit<, lit≤, pow_pos}
 use Rattle.std.proofs.Math.Nat.{div-add-mod}
 use Rattle.std.specs.Int.Bits.{bit_xor, xor_assoc, xor_self, xor_zero_l, xor_zero_r, xor_shifted}
 use Rattle.std.proofs.lemmas.Nat.{xor_comm, xor_shr, xor_mod, xor_block, xor_lt}

@@ -1,4 +1,6 @@
 // Fields by their meaning, and the three that are delivered. Code above this crate is written once, for every lawful field.
+#![tactic(auto)]
+
 ghost use Rattle.std.specs.Prelude.{◌≡◌};
 ghost use Rattle.field.specs.Fields.{Ops, Lawful};
 ghost use Rattle.field.specs.Answers.{two_answer, one_answer, sum_answer, difference_answer, product_answer, inverse_answer};

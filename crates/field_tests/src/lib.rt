@@ -1,3 +1,5 @@
+#![tactic(auto)]
+
 // Tests of the fields against values from outside.
 #[cfg(test)]
 mod cases;

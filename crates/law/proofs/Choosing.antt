@@ -1,11 +1,11 @@
 -- The choice of coefficients, packet after packet. Assumes nothing.
-use Rattle.std.proofs.Common.{◌≡◌, ℕ, zero, suc, ◌+◌, ◌<◌, ◌≤◌, ◌⊎◌, List, [], length, get_or, sym, refl, ap, ◌∙◌, subst, inl, inr, not-suc-le-zero, arith}
+use Rattle.std.proofs.Common.{◌≡◌, ℕ, zero, suc, ◌<◌, ◌≤◌, ◌⊎◌, List, length, sym, refl, ap, ◌∙◌, subst, inl, inr, not-suc-le-zero, arith}
 use Rattle.std.proofs.lemmas.Bool.{cases_eq, cases_lt}
 use Rattle.field.specs.Fields.{Ops, Lawful}
-use Rattle.law.specs.Choice.{Oldest, Asked, Vetoed, Chosen, Records}
+use Rattle.law.specs.Choice.{Asked, Vetoed, Chosen, Records}
 use Rattle.law.specs.Theorems.{OneChoice}
 use Rattle.law.proofs.Oldests.{decide_asked}
-use Rattle.law.proofs.Searching.{First, search_below}
+use Rattle.law.proofs.Searching.{search_below}
 use Rattle.law.proofs.Terms.{zero_code}
 use Rattle.law.proofs.Vetoes.{vetoed_alike, decide_vetoed, free_code}
 

@@ -1,12 +1,11 @@
 -- The oldest unseen packet, by rows and by frames. Assumes nothing.
-use Rattle.std.proofs.Common.{◌≡◌, ℕ, ◌<◌, ◌≤◌, ◌⊎◌, List, [], length, get_or, sym, subst, inl, inr, arith}
+use Rattle.std.proofs.Common.{◌≡◌, ℕ, ◌<◌, ◌⊎◌, List, [], length, get_or, inl, inr, arith}
 use Rattle.std.proofs.lemmas.Bool.{cases_eq, cases_lt}
-use Rattle.algebra.specs.Packets.{OldestUnseen}
 use Rattle.algebra.specs.Rows.{row_at}
 use Rattle.algebra.proofs.Forms.{seen_rows}
 use Rattle.law.specs.Choice.{Oldest, Asked}
 use Rattle.law.specs.Theorems.{OldestByRows}
-use Rattle.law.proofs.Searching.{First, search_below}
+use Rattle.law.proofs.Searching.{search_below}
 
 pub oldest_by_rows : OldestByRows
 oldest_by_rows o laws n l fs rows form a h k = (

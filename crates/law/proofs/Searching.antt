@@ -1,5 +1,5 @@
 -- Searching the numbers below a bound. Assumes nothing.
-use Rattle.std.proofs.Common.{◌≡◌, ℕ, zero, suc, ◌<◌, ◌⊎◌, sym, subst, inl, inr, not-suc-le-zero, arith}
+use Rattle.std.proofs.Common.{ℕ, zero, suc, ◌<◌, ◌⊎◌, subst, inl, inr, not-suc-le-zero, arith}
 use Rattle.std.proofs.lemmas.Bool.{cases_eq}
 
 module _ (P : ℕ → Type 0) (decide : (i : ℕ) → P i ⊎ (P i → ⊥)) where

@@ -7,7 +7,7 @@ use Rattle.field.proofs.Elements.{Element, same_code}
 use Rattle.algebra.specs.Frames.{code_at, Codes, Frame, summed}
 use Rattle.algebra.specs.Packets.{Seen}
 use Rattle.algebra.specs.Rows.{row_at, ReducedForm}
-use Rattle.algebra.proofs.Bridge.{k, table, vector, vector_code, all_codes, span_down}
+use Rattle.algebra.proofs.Bridge.{k, table, vector, all_codes, span_down}
 use Rattle.algebra.proofs.Forms.{reduced, stands, at, rest_code}
 use Rattle.algebra.proofs.Insertion.{rest, rest_lead}
 use Rattle.algebra.proofs.Tables.{image, image_fixed}

@@ -1,5 +1,5 @@
 -- Sums with terms that are 0. Assumes nothing.
-use Rattle.std.proofs.Common.{◌≡◌, ℕ, zero, suc, ◌+◌, ◌<◌, ◌≤◌, sym, refl, ap, ◌∙◌, subst, ap₂, le_trans, add-zero, add-suc, arith, lit≤}
+use Rattle.std.proofs.Common.{◌≡◌, ℕ, zero, suc, ◌+◌, ◌<◌, ◌≤◌, refl, ap, ◌∙◌, ap₂, le_trans, add-zero, add-suc, arith, lit≤}
 use Rattle.field.specs.Fields.{Ops, Lawful}
 use Rattle.field.proofs.Arithmetic.{zero-mul, mul-zero}
 use Rattle.field.proofs.Elements.{elements}

@@ -1,14 +1,14 @@
 -- Vetoed codes, and a code that is free. Assumes nothing.
-use Rattle.std.proofs.Common.{◌≡◌, ℕ, ◌+◌, ◌<◌, ◌≤◌, ◌⊎◌, List, [], length, get_or, sym, ap, ◌∙◌, subst, inl, inr, arith}
+use Rattle.std.proofs.Common.{◌≡◌, ℕ, ◌+◌, ◌<◌, ◌⊎◌, List, [], length, get_or, sym, ap, ◌∙◌, subst, inl, inr, arith}
 use Rattle.std.proofs.lemmas.Bool.{cases_eq}
 use Rattle.field.specs.Fields.{Ops, Lawful}
 use Rattle.algebra.specs.Frames.{Frames}
 use Rattle.algebra.specs.Rows.{row_at, Reduced}
-use Rattle.law.specs.Choice.{Oldest, Asked, veto_at, Vetoed, Records}
+use Rattle.law.specs.Choice.{Oldest, Asked, veto_at, Vetoed}
 use Rattle.law.specs.Theorems.{FreeCode}
 use Rattle.law.proofs.Oldests.{same_oldest, decide_oldest, decide_asked}
 use Rattle.law.proofs.Pigeons.{free_value}
-use Rattle.law.proofs.Searching.{First, search_below}
+use Rattle.law.proofs.Searching.{search_below}
 use Rattle.law.proofs.Terms.{zero_times, summed_zero, summed_alike}
 
 -- a code of a reduced table

@@ -1,5 +1,7 @@
 // The veto rule, by which a sender chooses the coefficients of a frame: theory alone. Each function's contract is a theorem, over
 // every lawful field.
+#![tactic(auto)]
+
 ghost use Rattle.law.specs.Theorems.{FreeCode, OneChoice, VetoByList, ShowsOldest, OldestByRows};
 
 // The oldest unseen packet is told by the rows.

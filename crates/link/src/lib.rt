@@ -1,4 +1,6 @@
 // Links: a frame sent in a slot reaches each of eight relays in some number of copies. Code above a link knows its meaning alone.
+#![tactic(auto)]
+
 ghost use Rattle.std.specs.Prelude.{◌≡◌, ℕ, List, OnOk};
 ghost use Rattle.link.specs.Calls.{Sent, relay_answer, copies_answer, ReadInto};
 ghost use Rattle.link.specs.Meanings.{Lawful, meaning};

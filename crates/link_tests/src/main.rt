@@ -1,4 +1,6 @@
 // Sends frames over a scripted link, a drawn link and piles of layers over them, and prints the counts slot by slot.
+#![tactic(auto)]
+
 ghost use Rattle.std.specs.Prelude.{◌≡◌, IfOk};
 ghost use Rattle.link_tests.specs.Piles.{OverDrawn, OverScripted};
 

@@ -1,5 +1,5 @@
 -- The bits of the set of seen packets. Assumes nothing.
-use Rattle.std.proofs.Common.{◌≡◌, ℕ, zero, suc, ◌+◌, ◌-◌, ◌*◌, ◌/◌, ◌%◌, ◌^◌, ◌<◌, ◌≤◌, ◌⊎◌, ◌↔◌, List, sym, refl, ap, ◌∙◌, subst, ap₂, inl, inr, not-suc-le-zero, mul-le-mul_right, mod-eq_of_lt, mul_assoc, add_comm, one-mul, pow-suc, arith}
+use Rattle.std.proofs.Common.{◌≡◌, ℕ, zero, suc, ◌+◌, ◌-◌, ◌*◌, ◌/◌, ◌%◌, ◌^◌, ◌<◌, ◌≤◌, ◌↔◌, List, sym, ap, ◌∙◌, inl, inr, not-suc-le-zero, mul-le-mul_right, mod-eq_of_lt, mul_assoc, add_comm, one-mul, pow-suc, arith}
 use native.Mathlib.Nat.{add-mul-div_right, add-mul-mod_self_right}
 use Rattle.std.proofs.lemmas.Nat.{pow_pos, pow-add, shr_high}
 use Rattle.std.proofs.lemmas.Bool.{cases_eq}

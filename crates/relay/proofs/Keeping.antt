@@ -5,12 +5,12 @@ use Rattle.faults.proofs.Passed.{passed_later}
 use Rattle.field.specs.Fields.{Ops, Lawful}
 use Rattle.algebra.specs.Frames.{code_at, Frame, InSpan}
 use Rattle.algebra.specs.Packets.{Seen, Contents, AgreesAll, Determined, Conflicts}
-use Rattle.algebra.specs.Rows.{row_at, ReducedForm}
+use Rattle.algebra.specs.Rows.{ReducedForm}
 use Rattle.algebra.proofs.Forms.{seen_rows, nothing_left, determined_rows, packet_in_row, some_contents, empty_form, same_form, joined_form, no_contents}
 use Rattle.elimination.specs.declared.fault.RowsFault.{RowsFault}
 use Rattle.elimination.specs.declared.fault.RowsFault.TheVariants.{Conflict, NotDetermined}
 use Rattle.elimination.specs.Tables.{Held, empty_table, frame_answer, Shows, seen_set, packet_answer}
-use Rattle.elimination.proofs.Accepting.{InRange, Fits, frame_passed, frame_passes, packet_passed, packet_passes}
+use Rattle.elimination.proofs.Accepting.{InRange, frame_passed, frame_passes, packet_passed, packet_passes}
 use Rattle.elimination.proofs.Tabling.{sound_empty, zero_rows}
 use Rattle.relay.specs.Calls.{Hears, HeardBy, seen_answer, Fetches, FetchedBy}
 use Rattle.relay.specs.Promise.{Hearing, Reached, added, accepted, Has, Acceptable, Promise}

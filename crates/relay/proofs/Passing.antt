@@ -1,5 +1,5 @@
 -- What a table does, told of the relay that holds it. Assumes nothing.
-use Rattle.std.proofs.Common.{◌≡◌, ℕ, zero, suc, ◌+◌, ◌-◌, ◌<◌, ◌≤◌, true, cond, eqb, List, [], length, get_or, drop, Some, None, Ok, Err, Option, Result, sym, refl, ap, ◌∙◌, subst, subst₂, add-one, arith, length-drop, get_or-drop}
+use Rattle.std.proofs.Common.{◌≡◌, ℕ, ◌+◌, ◌-◌, ◌<◌, ◌≤◌, eqb, List, [], length, get_or, Some, None, Ok, Err, Result, sym, ◌∙◌, subst, subst₂, add-one, arith, length-drop, get_or-drop}
 use Rattle.std.proofs.lemmas.Bool.{eq-eqb, cond-true}
 use Rattle.faults.proofs.Passed.{later}
 use Rattle.field.specs.Fields.{Ops, Lawful}
@@ -11,8 +11,8 @@ use Rattle.elimination.specs.Sound.{Sound}
 use Rattle.elimination.specs.Tables.{Held, frame_answer, Shows, packet_answer, symbols_of, Fetched}
 use Rattle.elimination.proofs.Accepting.{frame_passed, packet_passed}
 use Rattle.elimination.proofs.Tabling.{own}
-use Rattle.relay.specs.Calls.{Hears, Fetches, FetchedBy, Holds}
-use Rattle.relay.specs.States.{State, state_of}
+use Rattle.relay.specs.Calls.{Hears, FetchedBy, Holds}
+use Rattle.relay.specs.States.{state_of}
 
 -- a table of the field's size is a started relay's
 pub started_at : (o : Ops) (t : Held) → o.size ≡ t.size → state_of o t ≡ Some (record { ops = o; table = t })

@@ -1,4 +1,6 @@
 // A relay: a place that hears coded frames, tells which packets it has seen, and reads those that are determined.
+#![tactic(auto)]
+
 ghost use Rattle.std.specs.Prelude.{◌≡◌, List, None, Option, OnOk};
 ghost use Rattle.relay.specs.Calls.{Starts, Hears, seen_answer, Fetches};
 ghost use Rattle.relay.specs.Promise.{Hearing, Reached, Promise};

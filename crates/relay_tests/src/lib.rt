@@ -1,3 +1,5 @@
+#![tactic(auto)]
+
 // Tests of veto sums and of the relay, at all three fields.
 #[cfg(test)]
 mod loads;

@@ -1,14 +1,14 @@
 -- Coded sums, term by term: adding one, taking one out, and dividing what is left. Assumes nothing.
-use Rattle.std.proofs.Common.{◌≡◌, ℕ, zero, suc, ◌+◌, ◌<◌, ◌≤◌, ltb, List, [], ◌∷◌, map, length, get_or, drop, set, Some, None, Ok, Err, Option, sym, refl, ap, ◌∙◌, subst, ap₂, inl, inr, le_trans, le_of_suc-le-suc, not-suc-le-zero, arith, lit≤}
+use Rattle.std.proofs.Common.{◌≡◌, ℕ, zero, suc, ◌+◌, ◌<◌, ◌≤◌, List, [], ◌∷◌, map, length, get_or, drop, set, Some, None, Ok, Option, sym, refl, ap, ◌∙◌, subst, ap₂, inl, inr, le_trans, not-suc-le-zero, arith, lit≤}
 use Rattle.std.specs.List.{range_with_len}
 use Rattle.std.proofs.lemmas.List.FromFn.{fill_by_all, get_or-map-range_with_len, length-map-range_with_len}
 use Rattle.std.proofs.lemmas.List.{get_or-drop, length-drop, drop_more, drop_all, length-set, length-map, get_or-set_other, get_or-set_same, get_or-map}
 use Rattle.std.proofs.lemmas.Bool.{cases_lt, cases_eq}
 use Rattle.field.specs.Fields.{Ops, Lawful}
 use Rattle.field.specs.Answers.{difference_answer, inverse_answer}
-use Rattle.field.proofs.Arithmetic.{Arithmetic, zero-add, mul-zero, sub_negative, add_sub, inv_mul}
+use Rattle.field.proofs.Arithmetic.{zero-add, mul-zero, sub_negative, add_sub, inv_mul}
 use Rattle.field.proofs.Answered.{answered_two, accepts_inverse}
-use Rattle.field.proofs.Elements.{Element, elements, not_none, inverse_code}
+use Rattle.field.proofs.Elements.{elements, not_none, inverse_code}
 use Rattle.algebra.specs.Frames.{Codes}
 use Rattle.elimination.specs.Rows.{Subtractable, less_at, less_multiple}
 use Rattle.elimination.proofs.Subtraction.{less_closed, get_or_less, length_less}

@@ -1,5 +1,6 @@
 // One repair from beginning to end, at each of the three fields: three packets are sent, and one coded sum of them;
 // the second packet is lost, and rebuilt from what arrived.
+#![tactic(auto)]
 
 mod coding;
 mod listing;

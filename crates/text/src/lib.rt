@@ -1,4 +1,6 @@
 // Texts of digits: loss scripts and settings. A text is cut into lines at CR LF, and a line into fields at commas.
+#![tactic(auto)]
+
 ghost use Rattle.text.specs.Written.{ScriptsReadBack, ScriptsWritten, SettingsReadBack};
 
 mod cut;

@@ -1,4 +1,4 @@
-use Rattle.std.proofs.Common.{◌≡◌, [], vec_items, sym, refl, subst}
+use Rattle.std.proofs.Common.{[], vec_items, refl, subst}
 use Rattle.elimination.specs.Reduction.{lists}
 use Rattle.relay.specs.States.{state}
 use Rattle.decode.specs.Decoding.{Listed, hearings}

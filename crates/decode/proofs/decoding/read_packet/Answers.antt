@@ -1,4 +1,4 @@
-use Rattle.std.proofs.Common.{◌≡◌, Ok, vec_items, sym, ◌∙◌, subst₂, arith}
+use Rattle.std.proofs.Common.{Ok, sym, ◌∙◌, subst₂, arith}
 use Rattle.std.proofs.lemmas.List.{with_items_is}
 use Rattle.relay.specs.Calls.{Fetches}
 use Rattle.relay.specs.States.{state}

@@ -1,4 +1,4 @@
-use Rattle.std.proofs.Common.{◌≡◌, ◌<◌, min, [], ◌++◌, length, get_or, Ok, vec_items, string_bytes, sym, ap, ◌∙◌, ap₂, arith}
+use Rattle.std.proofs.Common.{◌≡◌, ◌<◌, min, [], ◌++◌, length, get_or, Ok, vec_items, string_bytes, sym, ap, ◌∙◌, arith}
 use Rattle.std.proofs.lemmas.List.{get_or-map, length-map}
 use Rattle.elimination.specs.Reduction.{lists}
 use Rattle.decode.specs.Listing.{joined, line_at, line_text}

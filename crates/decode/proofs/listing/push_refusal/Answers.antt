@@ -1,4 +1,4 @@
-use Rattle.std.proofs.Common.{◌≡◌, ◌++◌, string_bytes, codes, decimal, ap, ◌∙◌}
+use Rattle.std.proofs.Common.{◌++◌, string_bytes, codes, decimal, ap}
 use Rattle.faults.specs.Refusals.{layer_name}
 use Rattle.decode.proofs.Pushing.{pushed_as, both}
 use Rattle.decode.proofs.listing.push_refusal.Goals as goal

@@ -1,4 +1,4 @@
-use Rattle.std.proofs.Common.{◌≡◌, true, false, sym, ◌∙◌, arith, rules}
+use Rattle.std.proofs.Common.{◌≡◌, true, false, sym, ◌∙◌, rules}
 use Rattle.elimination.specs.Rows.{are_codes}
 use Rattle.elimination.proofs.Below.{past_code, at_no_code, at_end}
 use Rattle.elimination.proofs.codes.check_codes.Goals as goal

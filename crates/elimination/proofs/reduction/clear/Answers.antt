@@ -1,4 +1,4 @@
-use Rattle.std.proofs.Common.{◌≡◌, ℕ, ◌<◌, length, get_or, vec_items, sym, ap, ◌∙◌, subst, ap₂}
+use Rattle.std.proofs.Common.{◌≡◌, ℕ, ◌<◌, length, vec_items, sym, ap, ◌∙◌, subst, ap₂}
 use Rattle.std.proofs.lemmas.List.{with_items_is, get_or_read}
 use Rattle.algebra.specs.Frames.{code_at}
 use Rattle.elimination.specs.Rows.{Subtractable, less_multiple}

@@ -1,6 +1,6 @@
-use Rattle.std.proofs.Common.{◌≡◌, ℕ, length, ap, ◌∙◌, arith}
+use Rattle.std.proofs.Common.{◌≡◌, length, ap, ◌∙◌, arith}
 use Rattle.algebra.specs.Frames.{code_at, summed}
-use Rattle.elimination.proofs.Vetoing.{Summed, summed_none, summed_more}
+use Rattle.elimination.proofs.Vetoing.{summed_none, summed_more}
 use Rattle.elimination.proofs.veto.sum_products.Goals as goal
 
 pub loop-i-init : goal.loop-i-init

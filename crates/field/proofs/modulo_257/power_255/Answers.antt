@@ -1,4 +1,4 @@
-use Rattle.std.proofs.Common.{◌≡◌, ℕ, refl, ap, ◌∙◌, mod-lt, arith, lit<}
+use Rattle.std.proofs.Common.{◌≡◌, refl, ap, ◌∙◌, mod-lt, arith, lit<}
 use Rattle.field.specs.Residues.{times_modulo}
 use Rattle.field.specs.Products.{turns, turns_more}
 use Rattle.field.specs.Remainders.{inverse_turns}

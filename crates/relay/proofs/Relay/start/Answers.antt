@@ -1,5 +1,4 @@
-use Rattle.std.proofs.Common.{◌≡◌, List, Some, sym, refl, ap, ◌∙◌, subst}
-use Rattle.elimination.specs.Tables.{held}
+use Rattle.std.proofs.Common.{sym, refl, ap, ◌∙◌, subst}
 use Rattle.elimination.proofs.Accepting.{sizes_passed}
 use Rattle.relay.specs.Promise.{Reached}
 use Rattle.relay.specs.States.{state_of}

@@ -1,4 +1,4 @@
-use Rattle.std.proofs.Common.{◌≡◌, ◌<◌, Ok, ap, ◌∙◌, le_trans, lit≤}
+use Rattle.std.proofs.Common.{◌≡◌, Ok, ap, ◌∙◌, le_trans, lit≤}
 use Rattle.field.proofs.Answered.{answered_two}
 use Rattle.elimination.proofs.Subtraction.{never_refused}
 use Rattle.repair.proofs.Repairs.{blank, scaled_fit, scaled_is}

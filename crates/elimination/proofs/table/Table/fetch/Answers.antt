@@ -1,7 +1,7 @@
-use Rattle.std.proofs.Common.{◌≡◌, ◌-◌, ◌<◌, length, drop, vec_items, sym, ap, ◌∙◌, arith}
+use Rattle.std.proofs.Common.{◌-◌, ◌<◌, length, drop, vec_items, sym, ap, ◌∙◌, arith}
 use Rattle.elimination.specs.Tables.{held}
 use Rattle.elimination.proofs.Accepting.{packet_passed}
-use Rattle.elimination.proofs.Tabling.{Read, read}
+use Rattle.elimination.proofs.Tabling.{read}
 use Rattle.elimination.proofs.table.Table.fetch.Goals as goal
 
 pub split_at-requires : goal.split_at-requires

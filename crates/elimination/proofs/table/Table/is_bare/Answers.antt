@@ -1,5 +1,5 @@
-use Rattle.std.proofs.Common.{◌≡◌, ℕ, get_or, vec_items, sym, ap, ◌∙◌, arith}
-use Rattle.elimination.proofs.Tabling.{Read, read}
+use Rattle.std.proofs.Common.{get_or, vec_items, sym, ap, ◌∙◌, arith}
+use Rattle.elimination.proofs.Tabling.{read}
 use Rattle.elimination.proofs.table.Table.is_bare.Goals as goal
 
 pub bounds-row-m : goal.bounds-row-m

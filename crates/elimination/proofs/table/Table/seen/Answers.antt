@@ -1,4 +1,4 @@
-use Rattle.std.proofs.Common.{◌≡◌, ℕ, ◌<◌, length, vec_items, sym, refl, ap, ◌∙◌, subst, inl, inr, arith, lit<}
+use Rattle.std.proofs.Common.{ℕ, ◌<◌, length, vec_items, sym, refl, ◌∙◌, subst, inl, inr, lit<}
 use Rattle.elimination.specs.Reduction.{lists}
 use Rattle.elimination.specs.Tables.{seen_set}
 use Rattle.elimination.proofs.Sets.{read_code, read_wide, counted_turn}

@@ -1,4 +1,4 @@
-use Rattle.std.proofs.Common.{◌≡◌, sym, subst}
+use Rattle.std.proofs.Common.{sym, subst}
 use Rattle.std.proofs.lemmas.Bool.{eqb-true}
 use Rattle.elimination.specs.Tables.{held}
 use Rattle.elimination.proofs.Tabling.{sound_at}

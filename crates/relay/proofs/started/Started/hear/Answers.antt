@@ -1,4 +1,4 @@
-use Rattle.std.proofs.Common.{◌≡◌, sym, subst}
+use Rattle.std.proofs.Common.{subst}
 use Rattle.elimination.specs.Tables.{held, Taken}
 use Rattle.relay.proofs.Passing.{shown}
 use Rattle.relay.proofs.started.Started.hear.Goals as goal
