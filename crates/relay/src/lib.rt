@@ -38,7 +38,7 @@ impl<F: Field + Drop> Relay<F> {
         ensures started { Starts (F.ops field) packets symbols (state F.ops self.old) result (state F.ops self.new) }
         ensures promise { OnOk result ((hs : List Hearing) (t : Option State) → Reached (state F.ops self.new) hs t → Promise (F.ops field) packets symbols hs t) }
     {
-        let table = Table::new(heap, &field, packets, symbols)?;
+        let table = Table::for_field(heap, &field, packets, symbols)?;
         self.place = Some(Started { field, table });
         Ok(())
     }

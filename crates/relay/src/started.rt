@@ -19,7 +19,7 @@ impl<F: Field> Started<F> {
     pub(crate) fn hear(&mut self, frame: &[u16]) -> Result<usize, RowsFault>
         ensures { Hears (started_state F.ops self.old) frame.now result (started_state F.ops self.new) }
     {
-        match self.table.take_in(&self.field, frame)? {
+        match self.table.hear(&self.field, frame)? {
             Heard::New(lead) => Ok(lead + 1),
             Heard::Spanned => Ok(0),
             Heard::Conflict => Err(RowsFault::Conflict),

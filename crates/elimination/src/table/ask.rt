@@ -1,6 +1,7 @@
 // Questions to a table.
 ghost use Rattle.std.specs.Prelude.{◌≡◌, ◌<◌, length, MatchBool, ◌==◌};
 ghost use Rattle.algebra.specs.Packets.{Bare};
+ghost use Rattle.elimination.specs.Reduction.{lists};
 ghost use Rattle.elimination.specs.Tables.{held, seen_set, packet_answer, Fetched};
 
 use super::super::fault::RowsFault;
@@ -17,7 +18,7 @@ impl Table {
 
     // The packets that are seen, as a set: bit m for packet m, counted from 0.
     pub fn seen(&self) -> u32
-        ensures { result ≡ seen_set (held self.now).rows (held self.now).packets }
+        ensures { result ≡ seen_set (lists self.now.rows.items) self.now.packets }
     {
         let mut seen = 0;
         for m in 0..self.packets {

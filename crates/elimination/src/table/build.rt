@@ -10,7 +10,7 @@ use std::alloc::{AllocError, Global};
 
 impl Table {
     // A table for frames of this many coefficients and symbols; all its memory is got here.
-    pub fn new<F: Field>(
+    pub fn for_field<F: Field>(
         heap: Global,
         field: &F,
         packets: usize,
@@ -19,12 +19,12 @@ impl Table {
         ensures { Built (F.ops field.now) packets symbols result }
     {
         check_sizes(packets, symbols)?;
-        let table = Table::empty(heap, field.size(), packets, symbols)?;
+        let table = Table::new(heap, field.size(), packets, symbols)?;
         Ok(table)
     }
 
     // The same for sizes that are known to be in their ranges.
-    fn empty(heap: Global, q: u32, packets: usize, symbols: usize) -> Result<Table, AllocError>
+    pub(crate) fn new(heap: Global, q: u32, packets: usize, symbols: usize) -> Result<Table, AllocError>
         requires size { 1 ≤ q }
         requires few_packets { packets ≤ 32 }
         requires some_symbols { 1 ≤ symbols }

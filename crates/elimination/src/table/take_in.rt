@@ -13,11 +13,11 @@ use field::Field;
 
 impl Table {
     // Takes in a frame, or refuses what is none.
-    pub fn take_in<F: Field>(&mut self, field: &F, frame: &[u16]) -> Result<Heard, RowsFault>
+    pub fn hear<F: Field>(&mut self, field: &F, frame: &[u16]) -> Result<Heard, RowsFault>
         ensures { TakesIn (F.ops field.now) (held self.old) frame.now result (held self.new) }
     {
         self.check_frame(field, frame)?;
-        Ok(self.put_in(field, frame))
+        Ok(self.take_in(field, frame))
     }
 
     // Refuses a frame that is none for this table.
@@ -35,7 +35,7 @@ impl Table {
     }
 
     // Takes in a frame that is one for this table.
-    fn put_in<F: Field>(&mut self, field: &F, frame: &[u16]) -> Heard
+    pub(crate) fn take_in<F: Field>(&mut self, field: &F, frame: &[u16]) -> Heard
         requires field { self.old.q ≡ (F.ops field.now).size }
         requires frame { Frame self.old.q (self.old.packets + self.old.symbols) frame.now }
         ensures rows { TakenIn (F.ops field.now) (lists self.old.rows.items) frame.now result (lists self.new.rows.items) }

@@ -1,6 +1,6 @@
 use Rattle.std.proofs.Common.{◌≡◌, ◌+◌, replicate, vec_items, vec_len}
 use Rattle.elimination.specs.Reduction.{lists}
-use Rattle.elimination.proofs.table.Table.empty.Given as goal
+use Rattle.elimination.proofs.table.Table.new.Given as goal
 
 abbrev pub invariant-loop-row : goal.invariant-loop-row
 invariant-loop-row l =

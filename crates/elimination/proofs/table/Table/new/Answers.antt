@@ -3,7 +3,7 @@ use Rattle.std.proofs.lemmas.List.{map_push, replicate_more}
 use Rattle.elimination.specs.Reduction.{lists}
 use Rattle.elimination.specs.Sound.{Sound}
 use Rattle.elimination.proofs.Tabling.{sound_empty}
-use Rattle.elimination.proofs.table.Table.empty.Goals as goal
+use Rattle.elimination.proofs.table.Table.new.Goals as goal
 
 pub loop-row-preserved : goal.loop-row-preserved
 loop-row-preserved c =
