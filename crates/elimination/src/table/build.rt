@@ -24,7 +24,12 @@ impl Table {
     }
 
     // The same for sizes that are known to be in their ranges.
-    pub(crate) fn new(heap: Global, q: u32, packets: usize, symbols: usize) -> Result<Table, AllocError>
+    pub(crate) fn new(
+        heap: Global,
+        q: u32,
+        packets: usize,
+        symbols: usize,
+    ) -> Result<Table, AllocError>
         requires size { 1 ≤ q }
         requires few_packets { packets ≤ 32 }
         requires some_symbols { 1 ≤ symbols }
