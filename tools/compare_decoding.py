@@ -128,7 +128,7 @@ def recording(field, random):
 
 def main(rounds, seed):
     chance = random.Random(seed)
-    program = os.path.abspath(os.path.join(os.path.dirname(__file__), "..", "target", "bin", "decode"))
+    program = os.path.abspath(os.path.join(os.path.dirname(__file__), "..", "crates", "decode", "out", "decode"))
     for turn in range(rounds):
         wanted = []
         with tempfile.TemporaryDirectory() as folder:
