@@ -23,6 +23,10 @@ slots_lawful s counts eight few none = record {
   no_counts = none;
 }
 
+-- counts that are at most 1 are at most 9
+pub single_few : (counts : List ℕ) → ((i : ℕ) → slice_index counts i ≤ 1) → (i : ℕ) → slice_index counts i ≤ 9
+single_few counts single i = let h = single i in omega arith
+
 -- eight values of a function that is at most b everywhere
 pub each_counted : (f : ℕ → ℕ) (b : ℕ) → ((k : ℕ) → f k ≤ b) → (i : ℕ) → slice_index (map f (range_with_len 0 8)) i ≤ b
 each_counted f b h i =

@@ -1,6 +1,6 @@
 // A drawn link made, and its calls.
 ghost use Rattle.link.specs.Drawn.{drawn_carried, drawn_left, drawn_frame, counts_of, DrawnGoes, DrawnNew};
-ghost use Rattle.std.proofs.Common.{rules, arith};
+ghost use Rattle.link.specs.Laws.{slots_lawful, single_few};
 
 use super::super::fault::LinkFault;
 use super::super::slots::Slots;
@@ -33,7 +33,7 @@ impl Link for Drawn {
 
     ghost goes = { DrawnGoes };
 
-    ghost lawful = { first_of (Prim.search rules, Prim.grind (arith, Self.row.coded.inj)) };
+    ghost lawful = { λ d. slots_lawful d.slots d.counts d.eight (single_few d.counts d.single) d.fresh };
 
     fn slots_carried(&self) -> u16 {
         self.slots.carried
