@@ -2,9 +2,11 @@
 // Every layer has a fault enum of its own; what they share is the trait `Fault`.
 #![tactic(auto)]
 
-ghost use Rattle.std.specs.Prelude.{◌≡◌};
+ghost use Rattle.std.specs.Prelude.{◌≡◌, Some};
 ghost use Rattle.faults.specs.declared.Refusal.{Refusal};
-ghost use Rattle.faults.specs.Refusals.{layer_name, plain, in_text};
+ghost use Rattle.faults.specs.Refusals.{layer_name, refusal_text, plain, in_text};
+
+use std::fmt;
 
 // The layers, each by the name that is printed for it.
 #[derive(Clone, Copy, PartialEq, Eq, Debug)]
@@ -35,6 +37,14 @@ impl Layer {
     }
 }
 
+impl fmt::Display for Layer {
+    ghost output = { λ l. Some (layer_name l) };
+
+    fn fmt<W: fmt::Write>(&self, f: &mut fmt::Formatter<W>) -> fmt::Result {
+        f.write_str(self.name())
+    }
+}
+
 // A refusal as it is told: lines and fields count from 1, and are 0 for a fault outside texts.
 #[derive(Clone, Copy, PartialEq, Eq, Debug)]
 pub struct Refusal {
@@ -62,6 +72,16 @@ impl Refusal {
             line,
             field,
         }
+    }
+}
+
+// In words, as programs print it for a person.
+impl fmt::Display for Refusal {
+    ghost output = { λ r. Some (refusal_text r) };
+
+    fn fmt<W: fmt::Write>(&self, f: &mut fmt::Formatter<W>) -> fmt::Result {
+        let Refusal { layer, number, .. } = *self;
+        write!(f, "refused by {layer}, number {number}")
     }
 }
 
