@@ -45,7 +45,8 @@ impl fmt::Display for Layer {
     }
 }
 
-// A refusal as it is told: lines and fields count from 1, and are 0 for a fault outside texts.
+// A refusal as it is told. Formats fix these numbers, so they stay numbers: lines and fields count from 1, and are 0 for a fault
+// outside texts.
 #[derive(Clone, Copy, PartialEq, Eq, Debug)]
 pub struct Refusal {
     pub layer: Layer,
@@ -85,7 +86,7 @@ impl fmt::Display for Refusal {
     }
 }
 
-// A fault of any layer: it tells its refusal.
+// A fault of any layer: it tells its refusal. A trait and no `From`, so that code over any fault knows the very refusal.
 pub trait Fault {
     ghost told: { Self → Refusal };
 
