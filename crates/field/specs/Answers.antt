@@ -4,6 +4,10 @@ use Rattle.field.specs.declared.fault.FieldFault.{FieldFault}
 use Rattle.field.specs.declared.fault.FieldFault.TheVariants.{CodeTooLarge, InverseOfZero}
 use Rattle.field.specs.Fields.{Ops}
 
+-- a number is refused exactly where it is not below q
+abbrev pub code_answer : ℕ → ℕ → Result ℕ FieldFault
+code_answer q a = cond (nat_lt a q) (Ok a) (Err CodeTooLarge)
+
 -- two numbers are refused exactly where one of them is not below q
 abbrev pub two_answer : ℕ → ℕ → ℕ → Result (Unit {0}) FieldFault
 two_answer q a b = cond (nat_lt a q) (cond (nat_lt b q) (Ok tt) (Err CodeTooLarge)) (Err CodeTooLarge)

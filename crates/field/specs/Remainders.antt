@@ -25,7 +25,7 @@ product m h = record {
 }
 
 -- the power of 1 + k that n turns give is its inverse modulo m
-abbrev invertible : ℕ → ℕ → ℕ → Bool
+abbrev pub invertible : ℕ → ℕ → ℕ → Bool
 invertible m n k = times_modulo m (suc k) (turns (times_modulo m) (suc k) n) == 1
 
 pub inverse_turns : (m n a : ℕ) → 1 < m → m - 2 ≡ 2 ^ n - 1 → a < m → turns (times_modulo m) a n ≡ power (times_modulo m) a (m - 2)

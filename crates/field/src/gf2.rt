@@ -1,42 +1,27 @@
 // GF(2), the field of two elements.
-ghost use Rattle.field.specs.Residues.{gf2};
 ghost use Rattle.std.specs.Prelude.{refl};
 ghost use Rattle.std.proofs.Common.{lit<, lit≤};
-ghost use Rattle.field.specs.Remainders.{residues_lawful};
+ghost use Rattle.field.specs.Residues.{gf2};
 
-use super::fault::FieldFault;
-use super::{Field, check_inverse, check_two};
+use super::residues::Modulus;
 
 #[derive(Clone, Copy)]
 pub struct Gf2;
 
-impl Field for Gf2 {
-    ghost ops = { λ _. gf2 };
+impl Modulus for Gf2 {
+    const Q: u16 = 2;
 
-    ghost lawful = { λ f. residues_lawful 2 0 (lit< tt) (lit≤ tt) refl tt };
+    const TURNS: u32 = 0;
 
-    fn size(&self) -> u32 {
-        2
-    }
+    ghost Q = { gf2.size };
 
-    fn sum(&self, a: u16, b: u16) -> Result<u16, FieldFault> {
-        check_two(2, a, b)?;
-        Ok((a + b) % 2)
-    }
+    ghost TURNS = { 0 };
 
-    fn difference(&self, a: u16, b: u16) -> Result<u16, FieldFault> {
-        check_two(2, a, b)?;
-        Ok((a + (2 - b)) % 2)
-    }
+    ghost least = { lit< tt };
 
-    fn product(&self, a: u16, b: u16) -> Result<u16, FieldFault> {
-        check_two(2, a, b)?;
-        Ok(a * b % 2)
-    }
+    ghost most = { lit≤ tt };
 
-    // 1 is its own inverse, and the only code that has one.
-    fn inverse(&self, a: u16) -> Result<u16, FieldFault> {
-        check_inverse(2, a)?;
-        Ok(1)
-    }
+    ghost turned = { refl };
+
+    ghost inverses = { tt };
 }

@@ -1,11 +1,12 @@
-// GF(256) as in FIPS 197, with the reducing polynomial 11B hex. Every code but 0 is a power of 3, so logarithms add up to
-// products.
+// GF(256) as in FIPS 197, with the reducing polynomial 11B hex: a code is a byte. Every code but 0 is a power of 3, so
+// logarithms add up to products.
 ghost use Rattle.std.specs.Prelude.{◌≡◌, ◌<◌};
+ghost use Rattle.field.specs.Answers.{code_answer};
 ghost use Rattle.field.specs.Gf256.{gf256, gf256_product};
 ghost use Rattle.field.specs.Polynomials.{gf256_lawful};
 
+use super::Field;
 use super::fault::FieldFault;
-use super::{Field, check_inverse, check_two};
 use tables::{exp, log};
 
 mod tables;
@@ -23,8 +24,7 @@ impl Field for Gf256 {
     }
 
     fn sum(&self, a: u16, b: u16) -> Result<u16, FieldFault> {
-        check_two(256, a, b)?;
-        Ok(a ^ b)
+        Ok(u16::from(byte(a)? ^ byte(b)?))
     }
 
     // Every code is its own negative.
@@ -33,20 +33,26 @@ impl Field for Gf256 {
     }
 
     fn product(&self, a: u16, b: u16) -> Result<u16, FieldFault> {
-        check_two(256, a, b)?;
-        Ok(times(a, b))
+        Ok(u16::from(times(byte(a)?, byte(b)?)))
     }
 
     fn inverse(&self, a: u16) -> Result<u16, FieldFault> {
-        check_inverse(256, a)?;
-        Ok(reciprocal(a))
+        match byte(a)? {
+            0 => Err(FieldFault::InverseOfZero),
+            a => Ok(u16::from(reciprocal(a))),
+        }
     }
 }
 
+// A number as a code of this field.
+fn byte(a: u16) -> Result<u8, FieldFault>
+    ensures { result ≡ code_answer 256 a }
+{
+    u8::try_from(a).map_err(|_| FieldFault::CodeTooLarge)
+}
+
 // The product of two codes.
-fn times(a: u16, b: u16) -> u16
-    requires a_code { a < 256 }
-    requires b_code { b < 256 }
+fn times(a: u8, b: u8) -> u8
     ensures { result ≡ gf256_product a b }
 {
     if a == 0 || b == 0 {
@@ -56,9 +62,8 @@ fn times(a: u16, b: u16) -> u16
 }
 
 // The inverse of a code above 0.
-fn reciprocal(a: u16) -> u16
-    requires positive { 0 < a }
-    requires code { a < 256 }
+fn reciprocal(a: u8) -> u8
+    requires { 0 < a }
     ensures { result ≡ gf256.inverse a }
 {
     exp(255 - log(a))

@@ -3,13 +3,14 @@
 
 ghost use Rattle.std.specs.Prelude.{◌≡◌};
 ghost use Rattle.field.specs.Fields.{Ops, Lawful};
-ghost use Rattle.field.specs.Answers.{two_answer, one_answer, sum_answer, difference_answer, product_answer, inverse_answer};
+ghost use Rattle.field.specs.Answers.{sum_answer, difference_answer, product_answer, inverse_answer};
 ghost use Rattle.field.specs.Cases.{FieldCases};
 
 pub mod fault;
 pub mod gf2;
 pub mod gf256;
 pub mod modulo_257;
+pub mod residues;
 
 use fault::FieldFault;
 
@@ -33,29 +34,6 @@ pub trait Field {
         ensures { result ≡ inverse_answer (ops self.now) a };
 
     ghost lawful: { (f : Self) → Lawful (ops f) };
-}
-
-// Refuses two numbers of which one is no code.
-pub(crate) fn check_two(q: u16, a: u16, b: u16) -> Result<(), FieldFault>
-    ensures { result ≡ two_answer q a b }
-{
-    if a >= q || b >= q {
-        return Err(FieldFault::CodeTooLarge);
-    }
-    Ok(())
-}
-
-// Refuses a number that is no code, and 0, which has no inverse.
-pub(crate) fn check_inverse(q: u16, a: u16) -> Result<(), FieldFault>
-    ensures { result ≡ one_answer q a }
-{
-    if a >= q {
-        return Err(FieldFault::CodeTooLarge);
-    }
-    if a == 0 {
-        return Err(FieldFault::InverseOfZero);
-    }
-    Ok(())
 }
 
 // The worked cases hold of the definitions that the fields' contracts cite.

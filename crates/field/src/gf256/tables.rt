@@ -3,20 +3,19 @@ ghost use Rattle.std.specs.Prelude.{◌≡◌, ◌<◌};
 ghost use Rattle.field.specs.Gf256.{IsLog, power_of_3};
 
 // The power of 3 that a code is; 0 is none.
-pub(crate) fn log(a: u16) -> u16
-    requires positive { 0 < a }
-    requires code { a < 256 }
+pub(crate) fn log(a: u8) -> u16
+    requires { 0 < a }
     ensures { IsLog a result }
 {
     u16::from(LOG[usize::from(a)])
 }
 
 // The power n of 3, for a sum of two logarithms.
-pub(crate) fn exp(n: u16) -> u16
+pub(crate) fn exp(n: u16) -> u8
     requires { n < 509 }
     ensures { result ≡ power_of_3 n }
 {
-    u16::from(EXP[usize::from(n)])
+    EXP[usize::from(n)]
 }
 
 // The logarithm of each code, sixteen to a line; the first byte stands for none.
