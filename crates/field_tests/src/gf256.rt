@@ -1,5 +1,5 @@
 // GF(256) against FIPS 197. What is not printed there was worked out apart from the code.
-use crate::cases::{Case, Inverse, check_differences, check_inverses, check_products, check_sums};
+use crate::cases::{Case, Inverse, Tables, check_tables};
 use field::Field;
 use field::fault::FieldFault;
 use field::gf256::Gf256;
@@ -94,10 +94,13 @@ const MIXED: [Mixed; 10] = [
 
 #[test]
 fn tables(rt: HostRuntime) {
-    check_sums(&rt, &Gf256, &SUMS);
-    check_differences(&rt, &Gf256, &SUMS);
-    check_products(&rt, &Gf256, &PRODUCTS);
-    check_inverses(&rt, &Gf256, &INVERSES);
+    let tables = Tables {
+        sums: &SUMS,
+        differences: &SUMS,
+        products: &PRODUCTS,
+        inverses: &INVERSES,
+    };
+    check_tables(&rt, &Gf256, tables);
 }
 
 #[test]

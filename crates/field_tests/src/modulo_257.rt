@@ -1,5 +1,5 @@
 // The integers modulo 257 against remainders worked out apart from the code.
-use crate::cases::{Case, Inverse, check_differences, check_inverses, check_products, check_sums};
+use crate::cases::{Case, Inverse, Tables, check_tables};
 use field::modulo_257::Modulo257;
 
 const SUMS: [Case; 7] = [
@@ -47,8 +47,11 @@ const INVERSES: [Inverse; 9] = [
 
 #[test]
 fn remainders(rt: HostRuntime) {
-    check_sums(&rt, &Modulo257, &SUMS);
-    check_differences(&rt, &Modulo257, &DIFFERENCES);
-    check_products(&rt, &Modulo257, &PRODUCTS);
-    check_inverses(&rt, &Modulo257, &INVERSES);
+    let tables = Tables {
+        sums: &SUMS,
+        differences: &DIFFERENCES,
+        products: &PRODUCTS,
+        inverses: &INVERSES,
+    };
+    check_tables(&rt, &Modulo257, tables);
 }
