@@ -1,8 +1,8 @@
 -- The tables of powers of 3 and of logarithms hold what they should, and logarithms add up to products. Assumes nothing.
-use Rattle.std.proofs.Common.{◌≡◌, ℕ, zero, suc, ◌+◌, ◌-◌, ◌<◌, Bool, true, false, cond, T, eqb, ltb, List, [], ◌∷◌, map, length, get_or, sym, refl, ap, ◌∙◌, subst, ap₂, le_of_suc-le-suc, not-suc-le-zero, add-zero, add-suc, suc-add, zero-add, arith, lit<, ltb→lt}
+use Rattle.std.proofs.Common.{◌≡◌, ℕ, zero, suc, ◌+◌, ◌-◌, ◌<◌, Bool, true, false, cond, eqb, ltb, List, [], ◌∷◌, map, length, get_or, sym, refl, ap, ◌∙◌, subst, ap₂, le_of_suc-le-suc, not-suc-le-zero, add-zero, add-suc, suc-add, zero-add, arith, lit<}
 use Rattle.std.specs.List.{range_with_len}
 use Rattle.std.proofs.lemmas.List.FromFn.{get_or-map-range_with_len}
-use Rattle.std.proofs.lemmas.Bool.{eqb-true}
+use Rattle.std.proofs.lemmas.Bool.{eqb-true, ltb-true}
 use Rattle.field.specs.Powers.{power}
 use Rattle.field.specs.Gf256.{bit, poly_product, reduced, gf256_product, gf256, power_of_3, IsLog}
 use Rattle.field.proofs.Elements.{inverse_unique}
@@ -50,9 +50,9 @@ get_or_place (p ∷ ps) a h = go (get_or_place ps a) (eqb p a) refl h
     go rest false e l = rest (le_of_suc-le-suc l)
 
 -- every code but 0 is one of the first 255 powers
-placed : T (all_below (λ k. ltb (place (powers 1 255) (suc k)) 255) 255)
+placed : all_below (λ k. ltb (place (powers 1 255) (suc k)) 255) 255 ≡ true
 unfolding place powers gf256_product poly_product reduced bit
-placed = tt
+placed = refl
 
 -- the table of logarithms: for each code but 0, its place among the powers
 unfoldable pub log_table : List ℕ
@@ -69,7 +69,7 @@ table_log xs i (suc k) e all p h =
     n = place (powers 1 255) (suc k)
 
     less : n < 255
-    less = ltb→lt _ _ (passes (λ j. ltb (place (powers 1 255) (suc j)) 255) 255 placed k (omega arith))
+    less = ltb-true _ _ (passes (λ j. ltb (place (powers 1 255) (suc j)) 255) 255 placed k (omega arith))
 
     there : power_of_3 n ≡ suc k
     there =

@@ -1,7 +1,8 @@
 -- GF(256) is a lawful field: every piece of its product is additive over exclusive or, so the laws hold for all codes once
 -- they hold for the powers of x, which antt computes. Assumes nothing.
-use Rattle.std.specs.Prelude.{◌≡◌, ℕ, zero, suc, ◌+◌, ◌*◌, ◌/◌, ◌%◌, ◌^◌, ◌<◌, Bool, T, ◌==◌, nat_lt, refl}
-use Rattle.std.proofs.Common.{sym, ap, ap₂, ◌∙◌, subst, add-zero, zero-mul, one-mul, mod-lt, mul_comm, pow-suc, div-lt_iff_lt-mul, arith, eqb→eq, ltb→lt, lit<, lit≤, pow_pos}
+use Rattle.std.specs.Prelude.{◌≡◌, ℕ, zero, suc, ◌+◌, ◌*◌, ◌/◌, ◌%◌, ◌^◌, ◌<◌, Bool, true, ◌==◌, nat_lt, refl}
+use Rattle.std.proofs.Common.{sym, ap, ap₂, ◌∙◌, subst, add-zero, zero-mul, one-mul, mod-lt, mul_comm, pow-suc, div-lt_iff_lt-mul, arith, lit<, lit≤, pow_pos}
+use Rattle.std.proofs.lemmas.Bool.{eqb-true, ltb-true}
 use Rattle.std.proofs.Math.Nat.{div-add-mod}
 use Rattle.std.specs.Int.Bits.{bit_xor, xor_assoc, xor_self, xor_zero_l, xor_zero_r, xor_shifted}
 use Rattle.std.proofs.lemmas.Nat.{xor_comm, xor_shr, xor_mod, xor_block, xor_lt}
@@ -132,28 +133,28 @@ stays i j = nat_lt (gf256_product (2 ^ i) (2 ^ j)) 256
 keeps : ℕ → Bool
 keeps i = gf256_product (2 ^ i) 1 == 2 ^ i
 
-commutes_all : T (all_below (λ i. all_below (commutes i) 8) 8)
+commutes_all : all_below (λ i. all_below (commutes i) 8) 8 ≡ true
 unfolding commutes gf256_product poly_product reduced bit
-commutes_all = tt
+commutes_all = refl
 
-associates_all : T (all_below (λ i. all_below (λ j. all_below (associates i j) 8) 8) 8)
+associates_all : all_below (λ i. all_below (λ j. all_below (associates i j) 8) 8) 8 ≡ true
 unfolding associates gf256_product poly_product reduced bit
-associates_all = tt
+associates_all = refl
 
-stays_all : T (all_below (λ i. all_below (stays i) 8) 8)
+stays_all : all_below (λ i. all_below (stays i) 8) 8 ≡ true
 unfolding stays gf256_product poly_product reduced bit
-stays_all = tt
+stays_all = refl
 
-keeps_all : T (all_below keeps 8)
+keeps_all : all_below keeps 8 ≡ true
 unfolding keeps gf256_product poly_product reduced bit
-keeps_all = tt
+keeps_all = refl
 
 product_comm : (a b : ℕ) → a < 256 → b < 256 → gf256_product a b ≡ gf256_product b a
 unfolding commutes
 product_comm a b ha hb =
     agree (λ x. gf256_product x b) (gf256_product b) (product_left b) (product_right b)
     (λ i hi. agree (gf256_product (2 ^ i)) (λ y. gf256_product y (2 ^ i)) (product_right (2 ^ i)) (product_left (2 ^ i))
-    (λ j hj. eqb→eq _ _ (passes (commutes i) 8 (passes (λ i. all_below (commutes i) 8) 8 commutes_all i hi) j hj)) b hb)
+    (λ j hj. eqb-true _ _ (passes (commutes i) 8 (passes (λ i. all_below (commutes i) 8) 8 commutes_all i hi) j hj)) b hb)
     a ha
 
 product_assoc : (a b c : ℕ) → a < 256 → b < 256 → c < 256 → gf256_product (gf256_product a b) c ≡ gf256_product a (gf256_product b c)
@@ -167,7 +168,7 @@ product_assoc a b c ha hb hc =
     (λ j hj. agree (gf256_product (gf256_product (2 ^ i) (2 ^ j))) (λ z. gf256_product (2 ^ i) (gf256_product (2 ^ j) z))
     (product_right (gf256_product (2 ^ i) (2 ^ j)))
     (after (gf256_product (2 ^ i)) (gf256_product (2 ^ j)) (product_right (2 ^ i)) (product_right (2 ^ j)))
-    (λ k hk. eqb→eq _ _ (passes (associates i j) 8
+    (λ k hk. eqb-true _ _ (passes (associates i j) 8
     (passes (λ j. all_below (associates i j) 8) 8
     (passes (λ i. all_below (λ j. all_below (associates i j) 8) 8) 8 associates_all i hi) j hj) k hk))
     c hc) b hb) a ha
@@ -177,7 +178,7 @@ unfolding stays
 product_closed a b ha hb =
     below (λ x. gf256_product x b) (product_left b)
     (λ i hi. below (gf256_product (2 ^ i)) (product_right (2 ^ i))
-    (λ j hj. ltb→lt _ _ (passes (stays i) 8 (passes (λ i. all_below (stays i) 8) 8 stays_all i hi) j hj)) b hb)
+    (λ j hj. ltb-true _ _ (passes (stays i) 8 (passes (λ i. all_below (stays i) 8) 8 stays_all i hi) j hj)) b hb)
     a ha
   where
     below : (f : ℕ → ℕ) → Additive f → ((i : ℕ) → i < 8 → f (2 ^ i) < 256) → (x : ℕ) → x < 256 → f x < 256
@@ -188,7 +189,7 @@ product_closed a b ha hb =
 product_one : (a : ℕ) → a < 256 → gf256_product a 1 ≡ a
 unfolding keeps
 product_one =
-    agree (λ x. gf256_product x 1) (λ x. x) (product_left 1) (λ x y. refl) (λ i hi. eqb→eq _ _ (passes keeps 8 keeps_all i hi))
+    agree (λ x. gf256_product x 1) (λ x. x) (product_left 1) (λ x y. refl) (λ i hi. eqb-true _ _ (passes keeps 8 keeps_all i hi))
 
 xor_back : (a b : ℕ) → bit_xor (bit_xor a b) b ≡ a
 xor_back a b = xor_assoc a b b ∙ ap (bit_xor a) (xor_self b) ∙ xor_zero_r a
@@ -200,9 +201,9 @@ gf256_products = record { unit = lit< tt; closed = product_closed; assoc = produ
 abbrev unit_power : ℕ → Bool
 unit_power k = turns gf256_product (suc k) 8 == 1
 
-unit_powers : T (all_below unit_power 255)
+unit_powers : all_below unit_power 255 ≡ true
 unfolding gf256_product poly_product reduced bit
-unit_powers = tt
+unit_powers = refl
 
 product_inverse : (a : ℕ) → 0 < a → a < 256 → gf256_product a (power gf256_product a 254) ≡ 1
 unfolding power
@@ -210,7 +211,7 @@ product_inverse zero p h = absurd (omega arith)
 product_inverse (suc k) p h =
     product_comm (suc k) (power gf256_product (suc k) 254) h (power_closed 256 gf256_product gf256_products (suc k) 254 h)
     ∙ sym (turns_power 256 gf256_product gf256_products (suc k) 8 h)
-    ∙ eqb→eq _ _ (passes unit_power 255 unit_powers k (omega arith))
+    ∙ eqb-true _ _ (passes unit_power 255 unit_powers k (omega arith))
 
 pub gf256_lawful : Lawful gf256
 gf256_lawful = record {

@@ -1,26 +1,20 @@
 -- Remainders modulo m are a lawful field where a computed test finds each code's inverse. Assumes nothing.
-use Rattle.std.specs.Prelude.{◌≡◌, ℕ, zero, suc, ◌+◌, ◌-◌, ◌*◌, ◌/◌, ◌%◌, ◌^◌, ◌<◌, ◌≤◌, Bool, T, ◌==◌}
+use Rattle.std.specs.Prelude.{◌≡◌, ℕ, zero, suc, ◌+◌, ◌-◌, ◌*◌, ◌/◌, ◌%◌, ◌^◌, ◌<◌, ◌≤◌, Bool, true, ◌==◌}
 use Rattle.std.proofs.Common.{sym, ap, ◌∙◌, add_assoc, add_comm, add-zero, mul_assoc, mul_comm, mul-one, mul-add, add-mul, mod-lt, mod-eq_of_lt, arith, eqb→eq}
-use Rattle.std.proofs.Math.Nat.{mod-add-mod, add-mod-mod, add-mod, add-mod_right, mod-add-div, add-mul-mod_self_left}
+use Rattle.std.proofs.Math.Nat.{mod-add-mod, add-mod-mod, add-mod, add-mod_right}
+use Rattle.std.proofs.lemmas.Bool.{eqb-true}
+use Rattle.std.proofs.lemmas.Nat.{mul-mod_first, mul-mod_second}
 use Rattle.field.specs.Fields.{Lawful}
 use Rattle.field.specs.Powers.{power}
 use Rattle.field.specs.Residues.{residues, times_modulo}
 use Rattle.field.specs.Products.{Product, turns, power_closed, turns_power}
 use Rattle.field.specs.Tests.{all_below, passes}
 
-mod_mul_mod : (a b m : ℕ) → (a % m * b) % m ≡ (a * b) % m
-mod_mul_mod a b m =
-    sym (ap (λ x. (x * b) % m) (sym (mod-add-div a m)) ∙ ap (λ x. x % m) (add-mul (a % m) (m * (a / m)) b ∙ ap (λ x. a % m * b + x) (mul_assoc m (a / m) b))
-    ∙ add-mul-mod_self_left (a % m * b) m (a / m * b))
-
-mul_mod_mod : (a b m : ℕ) → (a * (b % m)) % m ≡ (a * b) % m
-mul_mod_mod a b m = ap (λ x. x % m) (mul_comm a (b % m)) ∙ mod_mul_mod b a m ∙ ap (λ x. x % m) (mul_comm b a)
-
 product : (m : ℕ) → 1 < m → Product m (times_modulo m)
 product m h = record {
   unit = h;
   closed = λ a b _ _. mod-lt (a * b) (omega arith);
-  assoc = λ a b c _ _ _. mod_mul_mod (a * b) c m ∙ ap (λ x. x % m) (mul_assoc a b c) ∙ sym (mul_mod_mod a (b * c) m);
+  assoc = λ a b c _ _ _. mul-mod_first (a * b) c m ∙ ap (λ x. x % m) (mul_assoc a b c) ∙ sym (mul-mod_second a (b * c) m);
   one = λ a k. ap (λ x. x % m) (mul-one a) ∙ mod-eq_of_lt k;
 }
 
@@ -32,11 +26,11 @@ pub inverse_turns : (m n a : ℕ) → 1 < m → m - 2 ≡ 2 ^ n - 1 → a < m �
 inverse_turns m n a least turned h =
     turns_power m (times_modulo m) (product m least) a n h ∙ ap (power (times_modulo m) a) (sym turned)
 
-module _ (m n : ℕ) (least : 1 < m) (most : m ≤ 65536) (turned : m - 2 ≡ 2 ^ n - 1) (inverses : T (all_below (invertible m n) (m - 1))) where
+module _ (m n : ℕ) (least : 1 < m) (most : m ≤ 65536) (turned : m - 2 ≡ 2 ^ n - 1) (inverses : all_below (invertible m n) (m - 1) ≡ true) where
   inverse_of : (a : ℕ) → 0 < a → a < m → times_modulo m a (power (times_modulo m) a (m - 2)) ≡ 1
   inverse_of zero p h = absurd (omega arith)
   inverse_of (suc k) p h =
-      ap (times_modulo m (suc k)) (sym (inverse_turns m n (suc k) least turned h)) ∙ eqb→eq _ _ (passes (invertible m n) (m - 1) inverses k (omega arith))
+      ap (times_modulo m (suc k)) (sym (inverse_turns m n (suc k) least turned h)) ∙ eqb-true _ _ (passes (invertible m n) (m - 1) inverses k (omega arith))
 
   pub residues_lawful : Lawful (residues m)
   residues_lawful = record {
@@ -52,7 +46,7 @@ module _ (m n : ℕ) (least : 1 < m) (most : m ≤ 65536) (turned : m - 2 ≡ 2 
     product_assoc = (product m least).assoc;
     product_comm = λ a b _ _. ap (λ x. x % m) (mul_comm a b);
     product_one = (product m least).one;
-    distributes = λ a b c _ _ _. mul_mod_mod a (b + c) m ∙ ap (λ x. x % m) (mul-add a b c) ∙ add-mod (a * b) (a * c) m;
+    distributes = λ a b c _ _ _. mul-mod_second a (b + c) m ∙ ap (λ x. x % m) (mul-add a b c) ∙ add-mod (a * b) (a * c) m;
     difference_sum = λ a b h k.
         mod-add-mod (a + (m - b)) m b ∙ ap (λ x. x % m) (regroup a b k) ∙ add-mod_right a m ∙ mod-eq_of_lt h;
     product_inverse = inverse_of;

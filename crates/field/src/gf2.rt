@@ -23,5 +23,5 @@ impl Modulus for Gf2 {
 
     ghost turned = { refl };
 
-    ghost inverses = { tt };
+    ghost inverses = { refl };
 }

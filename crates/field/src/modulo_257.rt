@@ -23,5 +23,5 @@ impl Modulus for Modulo257 {
 
     ghost turned = { refl };
 
-    ghost inverses = { tt };
+    ghost inverses = { refl };
 }

@@ -1,5 +1,5 @@
 // Remainders modulo a prime q. Where q - 2 is all ones in binary, so many turns of squaring and multiplying give an inverse.
-ghost use Rattle.std.specs.Prelude.{◌≡◌, ℕ, ◌-◌, ◌^◌, ◌<◌, ◌≤◌, T};
+ghost use Rattle.std.specs.Prelude.{◌≡◌, ℕ, ◌-◌, ◌^◌, ◌<◌, ◌≤◌, true};
 ghost use Rattle.std.proofs.Common.{lit≤, le_trans};
 ghost use Rattle.field.specs.Answers.{two_answer, one_answer};
 ghost use Rattle.field.specs.Residues.{residues};
@@ -28,7 +28,7 @@ pub trait Modulus {
     ghost turned: { Q - 2 ≡ 2 ^ TURNS - 1 };
 
     // A test that is computed: every code but 0 has its inverse.
-    ghost inverses: { T (all_below (invertible Q TURNS) (Q - 1)) };
+    ghost inverses: { all_below (invertible Q TURNS) (Q - 1) ≡ true };
 }
 
 impl<M: Modulus> Field for M {
