@@ -1,6 +1,7 @@
 -- The tables of powers of 3 and of logarithms hold what they should, and logarithms add up to products. Assumes nothing.
-use Rattle.std.proofs.Common.{◌≡◌, ℕ, zero, suc, ◌+◌, ◌-◌, ◌<◌, Bool, true, false, cond, eqb, ltb, List, [], ◌∷◌, map, length, get_or, sym, refl, ap, ◌∙◌, subst, ap₂, le_of_suc-le-suc, not-suc-le-zero, add-zero, add-suc, suc-add, zero-add, arith, lit<}
-use Rattle.std.specs.List.{range_with_len}
+use Rattle.std.proofs.Common.{◌≡◌, ℕ, zero, suc, ◌+◌, ◌-◌, ◌<◌, true, eqb, ltb, List, [], ◌∷◌, map, length, get_or, sym, refl, ap, ◌∙◌, subst, ap₂, le_of_suc-le-suc, not-suc-le-zero, add-zero, add-suc, suc-add, zero-add, arith, lit<}
+use Rattle.std.specs.List.{range_with_len, position_or_len}
+use Rattle.std.proofs.lemmas.List.Sums.{passes_at_first}
 use Rattle.std.proofs.lemmas.List.FromFn.{get_or-map-range_with_len}
 use Rattle.std.proofs.lemmas.Bool.{eqb-true, ltb-true}
 use Rattle.field.specs.Powers.{power}
@@ -37,17 +38,11 @@ table_exp xs i n e all h = ap₂ (λ ys k. get_or ys k 0) all e ∙ get_or_power
 
 -- the first place at which ps has a
 unfoldable pub place : List ℕ → ℕ → ℕ
-place [] a = 0
-place (p ∷ ps) a = cond (eqb p a) 0 (suc (place ps a))
+place ps a = position_or_len (λ p. eqb p a) ps
 
 get_or_place : (ps : List ℕ) (a : ℕ) → place ps a < length ps → get_or ps (place ps a) 0 ≡ a
 unfolding place
-get_or_place [] a h = absurd (not-suc-le-zero h)
-get_or_place (p ∷ ps) a h = go (get_or_place ps a) (eqb p a) refl h
-  where
-    go : (place ps a < length ps → get_or ps (place ps a) 0 ≡ a) → (t : Bool) → eqb p a ≡ t → cond t 0 (suc (place ps a)) < suc (length ps) → get_or (p ∷ ps) (cond t 0 (suc (place ps a))) 0 ≡ a
-    go rest true e l = eqb-true p a e
-    go rest false e l = rest (le_of_suc-le-suc l)
+get_or_place ps a h = eqb-true _ _ (passes_at_first (λ p. eqb p a) ps 0 h)
 
 -- every code but 0 is one of the first 255 powers
 placed : all_below (λ k. ltb (place (powers 1 255) (suc k)) 255) 255 ≡ true

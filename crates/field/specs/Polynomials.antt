@@ -31,17 +31,17 @@ bit-xor i a b = ap (λ x. x % 2) (xor_shr a b i) ∙ xor_mod (a / 2 ^ i) (b / 2 
 
 -- a bit times a number is additive in both
 bit_times : (x y k : ℕ) → x < 2 → y < 2 → bit_xor x y * k ≡ bit_xor (x * k) (y * k)
-bit_times zero zero k _ _ = zero-mul k ∙ sym (ap (λ z. bit_xor z z) (zero-mul k))
-bit_times zero (suc zero) k _ _ = sym (ap (λ z. bit_xor z (1 * k)) (zero-mul k) ∙ xor_zero_l (1 * k))
-bit_times (suc zero) zero k _ _ = sym (ap (λ z. bit_xor (1 * k) z) (zero-mul k) ∙ xor_zero_r (1 * k))
-bit_times (suc zero) (suc zero) k _ _ = zero-mul k ∙ sym (xor_self (1 * k))
+bit_times zero zero k _ _ = simp zero-mul
+bit_times zero (suc zero) k _ _ = simp (zero-mul, xor_zero_l)
+bit_times (suc zero) zero k _ _ = simp (zero-mul, xor_zero_r)
+bit_times (suc zero) (suc zero) k _ _ = simp (zero-mul, xor_self)
 bit_times zero (suc (suc y)) k _ h = absurd (omega arith)
 bit_times (suc zero) (suc (suc y)) k _ h = absurd (omega arith)
 bit_times (suc (suc x)) y k h _ = absurd (omega arith)
 
 times_xor : (x u v : ℕ) → x < 2 → x * bit_xor u v ≡ bit_xor (x * u) (x * v)
-times_xor zero u v _ = zero-mul (bit_xor u v) ∙ sym (ap (λ z. bit_xor z (0 * v)) (zero-mul u) ∙ xor_zero_l (0 * v) ∙ zero-mul v)
-times_xor (suc zero) u v _ = one-mul (bit_xor u v) ∙ sym (ap (λ z. bit_xor z (1 * v)) (one-mul u) ∙ ap (bit_xor u) (one-mul v))
+times_xor zero u v _ = simp zero-mul
+times_xor (suc zero) u v _ = simp one-mul
 times_xor (suc (suc x)) u v h = absurd (omega arith)
 
 shift_xor : (n : ℕ) → Additive (λ a. a * 2 ^ n)
@@ -192,7 +192,7 @@ product_one =
     agree (λ x. gf256_product x 1) (λ x. x) (product_left 1) (λ x y. refl) (λ i hi. eqb-true _ _ (passes keeps 8 keeps_all i hi))
 
 xor_back : (a b : ℕ) → bit_xor (bit_xor a b) b ≡ a
-xor_back a b = xor_assoc a b b ∙ ap (bit_xor a) (xor_self b) ∙ xor_zero_r a
+xor_back a b = simp (xor_assoc, xor_self, xor_zero_r)
 
 pub gf256_products : Product 256 gf256_product
 gf256_products = record { unit = lit< tt; closed = product_closed; assoc = product_assoc; one = product_one }
