@@ -46,8 +46,7 @@ times_xor (suc (suc x)) u v h = absurd (omega arith)
 
 shift_xor : (n : ℕ) → Additive (λ a. a * 2 ^ n)
 shift_xor n a b =
-    sym (ap (λ x. bit_xor x (b * 2 ^ n)) (sym (add-zero (a * 2 ^ n))) ∙ ap (bit_xor (a * 2 ^ n + 0)) (sym (add-zero (b * 2 ^ n)))
-    ∙ xor_block n a b 0 0 (pow_pos n) (pow_pos n) ∙ add-zero (bit_xor a b * 2 ^ n))
+    sym (simp (add-zero, xor_self) at (xor_block n a b 0 0 (pow_pos n) (pow_pos n)))
 
 -- a bit of a sum times k, beside a sum: the parts of the two go together
 with_bit : (i k u v x y : ℕ) → bit_xor (bit_xor u v) (bit i (bit_xor x y) * k) ≡ bit_xor (bit_xor u (bit i x * k)) (bit_xor v (bit i y * k))

@@ -1,7 +1,7 @@
 -- Remainders modulo m are a lawful field where a computed test finds each code's inverse. Assumes nothing.
 use Rattle.std.specs.Prelude.{◌≡◌, ℕ, zero, suc, ◌+◌, ◌-◌, ◌*◌, ◌%◌, ◌^◌, ◌<◌, ◌≤◌, Bool, true, ◌==◌}
 use Rattle.std.proofs.Common.{sym, ap, ◌∙◌, add_assoc, add_comm, add-zero, mul_assoc, mul_comm, mul-one, mul-add, mod-lt, mod-eq_of_lt, arith}
-use Rattle.std.proofs.Math.Nat.{mod-add-mod, add-mod-mod, add-mod, add-mod_right}
+use Rattle.std.proofs.Math.Nat.{mod-add-mod, add-mod-mod, add-mod_right}
 use Rattle.std.proofs.lemmas.Bool.{eqb-true}
 use Rattle.std.proofs.lemmas.Nat.{mul-mod_first, mul-mod_second}
 use Rattle.field.specs.Fields.{Lawful}
@@ -14,8 +14,8 @@ product : (m : ℕ) → 1 < m → Product m (times_modulo m)
 product m h = record {
   unit = h;
   closed = λ a b _ _. mod-lt (a * b) (omega arith);
-  assoc = λ a b c _ _ _. mul-mod_first (a * b) c m ∙ ap (λ x. x % m) (mul_assoc a b c) ∙ sym (mul-mod_second a (b * c) m);
-  one = λ a k. ap (λ x. x % m) (mul-one a) ∙ mod-eq_of_lt k;
+  assoc = λ a b c _ _ _. simp (mul-mod_first, mul-mod_second, mul_assoc);
+  one = λ a k. simp mul-one (mod-eq_of_lt k);
 }
 
 -- the power of 1 + k that n turns give is its inverse modulo m
@@ -40,15 +40,14 @@ module _ (m n : ℕ) (least : 1 < m) (most : m ≤ 65536) (turned : m - 2 ≡ 2 
     difference_closed = λ a b _ _. mod-lt (a + (m - b)) (omega arith);
     product_closed = (product m least).closed;
     inverse_closed = λ a _ h. power_closed m (times_modulo m) (product m least) a (m - 2) h;
-    sum_assoc = λ a b c _ _ _. mod-add-mod (a + b) m c ∙ ap (λ x. x % m) (add_assoc a b c) ∙ sym (add-mod-mod a (b + c) m);
+    sum_assoc = λ a b c _ _ _. simp (mod-add-mod, add-mod-mod, add_assoc);
     sum_comm = λ a b _ _. ap (λ x. x % m) (add_comm a b);
-    sum_zero = λ a h. ap (λ x. x % m) (add-zero a) ∙ mod-eq_of_lt h;
+    sum_zero = λ a h. simp add-zero (mod-eq_of_lt h);
     product_assoc = (product m least).assoc;
     product_comm = λ a b _ _. ap (λ x. x % m) (mul_comm a b);
     product_one = (product m least).one;
-    distributes = λ a b c _ _ _. mul-mod_second a (b + c) m ∙ ap (λ x. x % m) (mul-add a b c) ∙ add-mod (a * b) (a * c) m;
-    difference_sum = λ a b h k.
-        mod-add-mod (a + (m - b)) m b ∙ ap (λ x. x % m) (regroup a b k) ∙ add-mod_right a m ∙ mod-eq_of_lt h;
+    distributes = λ a b c _ _ _. simp (mul-mod_second, mul-add, mod-add-mod, add-mod-mod);
+    difference_sum = λ a b h k. rw (mod-add-mod, regroup a b k, add-mod_right) (mod-eq_of_lt h);
     product_inverse = inverse_of;
   }
     where

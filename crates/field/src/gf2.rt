@@ -11,6 +11,7 @@ pub struct Gf2;
 impl Modulus for Gf2 {
     const Q: u16 = 2;
 
+    // 0 has no ones: 1 is its own inverse, and the only code that has one.
     const TURNS: u32 = 0;
 
     ghost Q = { gf2.size };

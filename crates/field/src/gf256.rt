@@ -44,7 +44,7 @@ impl Field for Gf256 {
     }
 }
 
-// A number as a code of this field.
+// A number as a code of this field; the type says that it is below 256.
 fn byte(a: u16) -> Result<u8, FieldFault>
     ensures { result ≡ code_answer 256 a }
 {

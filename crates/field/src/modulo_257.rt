@@ -11,6 +11,7 @@ pub struct Modulo257;
 impl Modulus for Modulo257 {
     const Q: u16 = 257;
 
+    // 255 is eight ones in binary.
     const TURNS: u32 = 8;
 
     ghost Q = { modulo_257.size };

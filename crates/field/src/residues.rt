@@ -1,4 +1,4 @@
-// Remainders modulo a prime q. Where q - 2 is all ones in binary, so many turns of squaring and multiplying give an inverse.
+// The integers modulo a prime q of which q - 2 is all ones in binary, written once for every such q.
 ghost use Rattle.std.specs.Prelude.{◌≡◌, ℕ, ◌-◌, ◌^◌, ◌<◌, ◌≤◌, true};
 ghost use Rattle.std.proofs.Common.{lit≤, le_trans};
 ghost use Rattle.field.specs.Answers.{two_answer, one_answer};
@@ -9,11 +9,11 @@ ghost use Rattle.field.specs.Tests.{all_below};
 use super::Field;
 use super::fault::FieldFault;
 
-// A number q whose remainders are a field.
+// A field of integers modulo q, by its q: what implements this implements `Field`.
 pub trait Modulus {
     const Q: u16;
 
-    // How many ones q - 2 is in binary.
+    // How many ones q - 2 has in binary.
     const TURNS: u32;
 
     ghost Q: { ℕ };
@@ -22,12 +22,12 @@ pub trait Modulus {
 
     ghost least: { 1 < Q };
 
-    // The sum of two codes has 16 bits.
+    // So the sum of two codes has 16 bits.
     ghost most: { Q ≤ 32768 };
 
     ghost turned: { Q - 2 ≡ 2 ^ TURNS - 1 };
 
-    // A test that is computed: every code but 0 has its inverse.
+    // Every code but 0 has its inverse, as a test finds that is computed.
     ghost inverses: { all_below (invertible Q TURNS) (Q - 1) ≡ true };
 }
 
@@ -55,7 +55,7 @@ impl<M: Modulus> Field for M {
         Ok((u32::from(a) * u32::from(b) % u32::from(M::Q)) as u16)
     }
 
-    // The power q - 2, since each turn adds a one to the exponent.
+    // The power q - 2: each turn squares and multiplies, and so writes a one behind the exponent in binary.
     fn inverse(&self, a: u16) -> Result<u16, FieldFault> {
         check_inverse(M::Q, a)?;
         let q = u32::from(M::Q);

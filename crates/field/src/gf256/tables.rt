@@ -2,7 +2,7 @@
 ghost use Rattle.std.specs.Prelude.{◌≡◌, ◌<◌};
 ghost use Rattle.field.specs.Gf256.{IsLog, power_of_3};
 
-// The power of 3 that a code is; 0 is none.
+// The power of 3 that a code is; 0 is none. The type has room for the sum of two.
 pub(crate) fn log(a: u8) -> u16
     requires { 0 < a }
     ensures { IsLog a result }
