@@ -15,8 +15,8 @@ pub(crate) fn reduce<F: Field>(field: &F, table: &[Vec<u16>], frame: &[u16], res
     ensures codes { Codes (F.ops field.now).size rest.new }
 {
     rest.copy_from_slice(frame);
-    for m in 0..table.len() {
-        subtract_codes(field, rest, frame[m], table[m].as_slice());
+    for (row, factor) in table.iter().zip(frame) {
+        subtract_codes(field, rest, *factor, row.as_slice());
     }
 }
 
@@ -25,12 +25,7 @@ pub(crate) fn first_coefficient(row: &[u16], n: usize) -> Option<usize>
     requires { n ≤ length row.now }
     ensures { MatchOption result (NoCoefficient n row.now) (FirstCoefficient n row.now) }
 {
-    for i in 0..n {
-        if row[i] != 0 {
-            return Some(i);
-        }
-    }
-    None
+    row[..n].iter().position(|code| *code != 0)
 }
 
 // Multiplies each code of a row.
@@ -40,8 +35,8 @@ pub(crate) fn scale<F: Field>(field: &F, factor: u16, row: &mut [u16])
     ensures value { row.new ≡ multiple (F.ops field.now) factor row.old }
     ensures codes { Codes (F.ops field.now).size row.new }
 {
-    for i in 0..row.len() {
-        row[i] = times(field, factor, row[i]);
+    for code in row.iter_mut() {
+        *code = times(field, factor, *code);
     }
 }
 
@@ -50,8 +45,8 @@ pub(crate) fn insert<F: Field>(field: &F, table: &mut [Vec<u16>], a: usize, row:
     requires { Insertable (F.ops field.now).size (lists table.old) a row.now }
     ensures { lists table.new ≡ with_row (F.ops field.now) (lists table.old) a row.now }
 {
-    for m in 0..table.len() {
-        clear(field, &mut table[m], a, row);
+    for old in table.iter_mut() {
+        clear(field, old, a, row);
     }
     overwrite(&mut table[a], row);
 }

@@ -9,7 +9,7 @@ times-requires g c =
     let o = g.F.Field.ops c.args.field.now in
     record {
       a_code = c.requires.factor_code;
-      b_code = subst (λ (x : ℕ). x < o.size) (sym (c.loop-i.invariant.1 c.loop-i.i (le_refl _))) (c.requires.row_codes c.loop-i.i c.loop-i-test.true);
+      b_code = subst (λ (x : ℕ). x < o.size) (sym (c.loop-code.invariant.1 c.loop-code.code-index (le_refl _))) (c.requires.row_codes c.loop-code.code-index c.loop-code-test.true);
     }
 
 pub returns : goal.returns
@@ -18,9 +18,9 @@ returns g c =
     let o = g.F.Field.ops c.args.field.now in
     let laws = g.met.F.Field.lawful c.args.field.now in
     let row = c.args.row.now in
-    let long : length c.loop-i.row ≡ length row = omega arith in
+    let long : length c.loop-code.row ≡ length row = omega arith in
     record {
-      value = fill_by_all (λ i. o.product c.args.factor (code_at row i)) c.loop-i.row (length row) 0 long (λ i h. c.loop-i.invariant.0 i (omega arith));
-      codes = λ i h. subst (λ (x : ℕ). x < o.size) (sym (c.loop-i.invariant.0 i (omega arith)))
+      value = fill_by_all (λ i. o.product c.args.factor (code_at row i)) c.loop-code.row (length row) 0 long (λ i h. c.loop-code.invariant.0 i (omega arith));
+      codes = λ i h. subst (λ (x : ℕ). x < o.size) (sym (c.loop-code.invariant.0 i (omega arith)))
           (laws.product_closed c.args.factor (code_at row i) c.requires.factor_code (c.requires.row_codes i (omega arith)));
     }
