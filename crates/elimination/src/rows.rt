@@ -45,8 +45,8 @@ pub(crate) fn subtract_codes<F: Field>(field: &F, target: &mut [u16], factor: u1
     ensures after { target.new ≡ less_multiple (F.ops field.now) target.old factor source.now }
     ensures codes { Codes (F.ops field.now).size target.new }
 {
-    for i in 0..target.len() {
+    for (i, code) in target.iter_mut().enumerate() {
         let product = times(field, factor, source[i]);
-        target[i] = less(field, target[i], product);
+        *code = less(field, *code, product);
     }
 }

@@ -24,8 +24,8 @@ fn sum_products<F: Field>(field: &F, coefficients: &[u16], column: &[u16]) -> u1
     ensures { result ≡ veto (F.ops field.now) coefficients.now column.now }
 {
     let mut sum = 0;
-    for i in 0..coefficients.len() {
-        let product = times(field, coefficients[i], column[i]);
+    for (coefficient, code) in coefficients.iter().zip(column) {
+        let product = times(field, *coefficient, *code);
         sum = plus(field, sum, product);
     }
     sum
