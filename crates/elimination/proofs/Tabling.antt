@@ -1,18 +1,20 @@
 -- A sound table stays sound when a frame puts a row in. Assumes nothing.
-use Rattle.std.proofs.Common.{◌≡◌, ℕ, ◌+◌, ◌-◌, ◌<◌, ◌≤◌, ◌⊎◌, List, [], ◌∷◌, map, length, get_or, replicate, vec_items, Vec, sym, refl, ap, ◌∙◌, subst, ap₂, inl, inr, arith}
+use Rattle.std.proofs.Common.{◌≡◌, ℕ, ◌+◌, ◌-◌, ◌<◌, ◌≤◌, ◌⊎◌, List, [], ◌∷◌, map, length, get_or, replicate, take, vec_items, Vec, Bool, true, false, MatchBool, zero-add, sym, refl, ap, ◌∙◌, subst, ap₂, inl, inr, arith}
 use mathlib.Core.HLevel.{Π_prop}
 use mathlib.Core.Logic.{∥∥₁_elim}
 use native.Mathlib.Bridge.{le_prop}
 use native.Mathlib.Nat.{ℕ_set}
+use Rattle.std.specs.List.{enumerate_from, AllWithin, HoldsAt}
 use Rattle.std.specs.declared.alloc.Global.{Global}
-use Rattle.std.proofs.lemmas.List.FromFn.{get_or-map-range_with_len, length-map-range_with_len}
-use Rattle.std.proofs.lemmas.List.{get_or-map, get_or_past, get_or-replicate, get_or-set_same, get_or-set_other, length-map, length-replicate, length-set}
+use Rattle.std.proofs.lemmas.List.FromFn.{get_or-map-range_with_len, length-map-range_with_len, length-enumerate_from, get_or-enumerate_from}
+use Rattle.std.proofs.lemmas.List.{get_or-map, get_or_past, get_or-replicate, get_or-set_same, get_or-set_other, get_or-take, length-take-le, length-map, length-replicate, length-set}
 use Rattle.std.proofs.lemmas.Bool.{cases_eq, cases_lt}
 use Rattle.field.specs.Fields.{Ops, Lawful}
 use Rattle.algebra.specs.Frames.{code_at, Codes, Frame, Frames, InSpan}
-use Rattle.algebra.specs.Packets.{BecomesSeen, Conflicts}
+use Rattle.algebra.specs.Packets.{Bare, BecomesSeen, Conflicts}
 use Rattle.algebra.specs.Rows.{row_at, Reduced, ReducedForm, rest_at, scaled_at, Inserted}
 use Rattle.algebra.proofs.Forms.{inserted_form, inserted_seen, nothing_left, rest_past, symbol_left}
+use Rattle.elimination.specs.declared.table.Table.{Table}
 use Rattle.elimination.specs.Reduction.{lists, rest_row, NoCoefficient, FirstCoefficient, multiple, Insertable, with_row, Spanned, NewRow}
 use Rattle.elimination.specs.Sound.{Sound}
 use Rattle.elimination.proofs.Remainder.{length_rest, read_row}
@@ -184,12 +186,49 @@ pub record Read (n l m : ℕ) (rows : List (List ℕ)) (row : List ℕ) : Type 0
   pub is : row ≡ get_or rows m []
   pub long : length row ≡ n + l
 
-pub read : {q n l : ℕ} (items : List (Vec ℕ Global)) → ∥ Sound q n l (lists items) ∥₁ → (m : ℕ) → m < n → {v : Vec ℕ Global} → v ≡ get_or items m v → (row : List ℕ) → row ≡ vec_items v → Read n l m (lists items) row
-read {q} {n} {l} items sound m h {v} e row same =
-    let s : Sound q n l (lists items) = sound_at refl sound in
-    let here : m < length (lists items) = subst (λ (x : ℕ). m < x) (sym s.reduced.tall) h in
-    let is : row ≡ get_or (lists items) m [] = read_row items m v row (subst (λ (x : ℕ). m < x) (length-map items vec_items) here) e same in
+pub read : (t : Table) {m : ℕ} {v : Vec ℕ Global} {row : List ℕ} → m < t.packets → v ≡ get_or (vec_items t.rows) m v → row ≡ vec_items v → Read t.packets t.symbols m (lists (vec_items t.rows)) row
+read t {m} {v} {row} h e same =
+    let s : Sound t.q t.packets t.symbols (lists (vec_items t.rows)) = sound_at refl t.sound in
+    let here : m < length (lists (vec_items t.rows)) = subst (λ (x : ℕ). m < x) (sym s.reduced.tall) h in
+    let is : row ≡ get_or (lists (vec_items t.rows)) m [] = read_row (vec_items t.rows) m v row (subst (λ (x : ℕ). m < x) (length-map (vec_items t.rows) vec_items) here) e same in
     record { is = is; long = ap length is ∙ (s.frames m here).long }
+
+-- a place and the coefficient there: the lead's or 0, and neither of them
+abbrev pub NoOther : ℕ → ℕ × ℕ → Type 0
+NoOther m p = (p.0 ≡ m) ⊎ (p.1 ≡ 0)
+
+abbrev pub Another : ℕ → ℕ × ℕ → Type 0
+Another m p = (p.0 ≡ m → ⊥) × (p.1 ≡ 0 → ⊥)
+
+abbrev pub coefficients : ℕ → List ℕ → List (ℕ × ℕ)
+coefficients n row = enumerate_from 0 (take n row)
+
+-- coefficient after coefficient, whether a row that is there has none but its lead
+pub bare_cases : {n l m : ℕ} {rows : List (List ℕ)} {row : List ℕ} → Read n l m rows row → code_at row m ≡ 1 → (b : Bool)
+    → MatchBool b (AllWithin (NoOther m) (coefficients n row) 0 (length (coefficients n row))) ((i : ℕ) × (i < length (coefficients n row)) × HoldsAt (Another m) (coefficients n row) i)
+    → MatchBool b (Bare n rows m) (Bare n rows m → ⊥)
+bare_cases {n} {l} {m} {rows} {row} r one b all = cases b all
+  where
+    long : length (coefficients n row) ≡ n
+    long = length-enumerate_from 0 (take n row) ∙ length-take-le n row (omega (arith, r.long))
+
+    at : (i : ℕ) → i < n → get_or (coefficients n row) i (0, 0) ≡ (i, row_at rows m i)
+    at i h =
+        let short : i < length (take n row) = omega (arith, length-take-le n row (omega (arith, r.long))) in
+        get_or-enumerate_from 0 (take n row) i (0, 0) short
+        ∙ ap₂ (λ x y. (x, y)) (zero-add i) (get_or-take n row i 0 h ∙ ap (λ x. code_at x i) r.is)
+
+    cases : (b : Bool)
+        → MatchBool b (AllWithin (NoOther m) (coefficients n row) 0 (length (coefficients n row))) ((i : ℕ) × (i < length (coefficients n row)) × HoldsAt (Another m) (coefficients n row) i)
+        → MatchBool b (Bare n rows m) (Bare n rows m → ⊥)
+    cases true all = record {
+      lead = ap (λ x. code_at x m) (sym r.is) ∙ one;
+      others = λ i h ne. elim (subst (NoOther m) (at i h) (all i (0, 0) (omega arith) (omega (arith, long)))) [ inl e ↦ absurd (ne e) | inr e ↦ e ];
+    }
+    cases false (i, h, another) =
+        let short : i < n = omega (arith, h, long) in
+        let found = subst (Another m) (at i short) (another (0, 0)) in
+        λ bare. found.1 (bare.others i short found.0)
 
 -- rows of zeros
 zero_row : (w i : ℕ) → get_or (replicate {A = ℕ} w 0) i 0 ≡ 0

@@ -1,6 +1,6 @@
 -- Rows of codes, and what is left of one when a multiple of another is taken away. Assumes nothing.
-use Rattle.std.specs.Prelude.{◌≡◌, ℕ, ◌<◌, Bool, true, cond, ◌&&◌, List, [], ◌∷◌, map, length, Ok, Err, Result, ◌==◌, nat_lt, slice_index}
-use Rattle.std.specs.List.{range_with_len}
+use Rattle.std.specs.Prelude.{◌≡◌, ℕ, ◌<◌, Bool, cond, ◌&&◌, List, map, length, Ok, Err, Result, ◌==◌, nat_lt, slice_index}
+use Rattle.std.specs.List.{range_with_len, list_all}
 use Rattle.algebra.specs.Frames.{Codes}
 use Rattle.field.specs.Fields.{Ops}
 use Rattle.field.specs.declared.fault.FieldFault.{FieldFault}
@@ -9,9 +9,8 @@ use Rattle.elimination.specs.declared.fault.RowsFault.{RowsFault}
 use Rattle.elimination.specs.declared.fault.RowsFault.TheVariants.{WrongLength, Field}
 
 -- every number of a row is a code, below q, as a test
-unfoldable pub are_codes : ℕ → List ℕ → Bool
-are_codes q [] = true
-are_codes q (c ∷ cs) = nat_lt c q && are_codes q cs
+abbrev pub are_codes : ℕ → List ℕ → Bool
+are_codes q row = list_all (λ c. nat_lt c q) row
 
 -- a row is refused exactly where one of its numbers is no code
 abbrev pub codes_answer : ℕ → List ℕ → Result (Unit {0}) FieldFault

@@ -10,10 +10,8 @@ use field::fault::FieldFault;
 pub(crate) fn check_codes(q: u32, row: &[u16]) -> Result<(), FieldFault>
     ensures { result ≡ codes_answer q row.now }
 {
-    for code in row {
-        if u32::from(*code) >= q {
-            return Err(FieldFault::CodeTooLarge);
-        }
+    if !row.iter().all(|code| u32::from(*code) < q) {
+        return Err(FieldFault::CodeTooLarge);
     }
     Ok(())
 }

@@ -3,7 +3,7 @@ ghost use Rattle.std.specs.Prelude.{◌≡◌, OnOk};
 ghost use Rattle.algebra.specs.Frames.{Codes};
 ghost use Rattle.elimination.specs.Rows.{Subtractable, less_multiple, subtract_answer, subtract_after};
 
-use super::codes::{check_codes, less, times};
+use super::codes::{check_pair, less, times};
 use super::fault::RowsFault;
 use field::Field;
 use field::fault::FieldFault;
@@ -28,11 +28,7 @@ pub fn subtract_multiple<F: Field>(
 fn check_subtraction(q: u32, target: &[u16], factor: u16, source: &[u16]) -> Result<(), RowsFault>
     ensures { result ≡ subtract_answer q target.now factor source.now }
 {
-    if source.len() != target.len() {
-        return Err(RowsFault::WrongLength);
-    }
-    check_codes(q, target)?;
-    check_codes(q, source)?;
+    check_pair(q, target, source)?;
     if u32::from(factor) >= q {
         return Err(RowsFault::Field(FieldFault::CodeTooLarge));
     }

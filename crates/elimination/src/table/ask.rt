@@ -21,8 +21,8 @@ impl Table {
         ensures { result ≡ seen_set (lists self.now.rows.items) self.now.packets }
     {
         let mut seen = 0;
-        for m in 0..self.packets {
-            if self.rows[m][m] != 0 {
+        for (m, row) in self.rows.iter().enumerate() {
+            if row[m] != 0 {
                 seen |= 1 << m;
             }
         }
@@ -62,14 +62,10 @@ impl Table {
         ensures { MatchBool result (Bare (held self.now).packets (held self.now).rows m) (Bare (held self.now).packets (held self.now).rows m → ⊥) }
     {
         let row = self.rows[m].as_slice();
-        if row[m] != 1 {
-            return false;
-        }
-        for i in 0..self.packets {
-            if i != m && row[i] != 0 {
-                return false;
-            }
-        }
-        true
+        row[m] == 1
+            && row[..self.packets]
+                .iter()
+                .enumerate()
+                .all(|(i, code)| i == m || *code == 0)
     }
 }

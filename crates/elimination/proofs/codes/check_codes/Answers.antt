@@ -1,20 +1,13 @@
-use Rattle.std.proofs.Common.{◌≡◌, true, false, sym, ◌∙◌, rules}
+use Rattle.std.proofs.Common.{◌≡◌, true, ltb, sym, ◌∙◌, rules, tests}
+use Rattle.std.proofs.lemmas.Iterator.{YieldsList-from_slice}
+use Rattle.std.proofs.lemmas.Iterator.Search.{all_from_yields_List}
 use Rattle.elimination.specs.Rows.{are_codes}
-use Rattle.elimination.proofs.Below.{past_code, at_no_code, at_end}
 use Rattle.elimination.proofs.codes.check_codes.Goals as goal
-
-pub loop-code-preserved : goal.loop-code-preserved
-loop-code-preserved c =
-    sym (past_code c.args.q c.args.row.now c.loop-code.code-index c.loop-code-test.true (search rules)) ∙ c.loop-code.invariant
-
-pub returns-then-from-q : goal.returns-then-from-q
-returns-then-from-q c =
-    let e : are_codes c.args.q c.args.row.now ≡ false =
-    sym c.loop-code.invariant ∙ at_no_code c.args.q c.args.row.now c.loop-code.code-index c.loop-code-test.true (search rules) in
-    search rules
 
 pub returns : goal.returns
 returns c =
-    let e : are_codes c.args.q c.args.row.now ≡ true =
-    sym c.loop-code.invariant ∙ at_end c.args.q c.args.row.now c.loop-code.code-index c.loop-code-test.false in
+    let q = c.args.q in
+    let row = c.args.row.now in
+    let e : are_codes q row ≡ true =
+    sym (all_from_yields_List (λ x. ltb x q) _ _ c.all.result c.all.ensures.ran (YieldsList-from_slice row cc) (λ x b p k. search (rules, tests))) ∙ c.if-not-all.false in
     search rules

@@ -1,4 +1,4 @@
-use Rattle.std.proofs.Common.{◌≡◌, length, sym, ap, ◌∙◌, subst, vec_items, arith}
+use Rattle.std.proofs.Common.{◌≡◌, length, sym, subst, vec_items, arith}
 use Rattle.std.proofs.lemmas.List.{length-map, length_push}
 use Rattle.std.proofs.lemmas.Slice.Zip.{zip_turn, zip_end}
 use Rattle.elimination.specs.Reduction.{lists}

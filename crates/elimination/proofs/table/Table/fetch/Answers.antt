@@ -1,4 +1,4 @@
-use Rattle.std.proofs.Common.{◌-◌, ◌<◌, length, drop, vec_items, sym, ap, ◌∙◌, arith}
+use Rattle.std.proofs.Common.{◌-◌, ◌<◌, length, drop, sym, ap, ◌∙◌, arith}
 use Rattle.elimination.specs.Tables.{held}
 use Rattle.elimination.proofs.Accepting.{packet_passed}
 use Rattle.elimination.proofs.Tabling.{read}
@@ -10,7 +10,7 @@ split_at-requires c =
     let k = c.args.packet in
     let asked = packet_passed (held t) k (length c.args.buffer.now) c.in_ok-check_packet.ensures in
     let h : k - 1 < t.packets = omega (arith, asked.first, asked.last) in
-    let r = read (vec_items t.rows) t.sound (k - 1) h c.index.ensures c.as_slice-row.result.now c.as_slice-row.ensures.value in
+    let r = read t h c.index.ensures c.as_slice-row.ensures.value in
     omega (arith, r.long)
 
 pub copy_from_slice-requires : goal.copy_from_slice-requires
@@ -19,7 +19,7 @@ copy_from_slice-requires c =
     let k = c.args.packet in
     let asked = packet_passed (held t) k (length c.args.buffer.now) c.in_ok-check_packet.ensures in
     let h : k - 1 < t.packets = omega (arith, asked.first, asked.last) in
-    let r = read (vec_items t.rows) t.sound (k - 1) h c.index.ensures c.as_slice-row.result.now c.as_slice-row.ensures.value in
+    let r = read t h c.index.ensures c.as_slice-row.ensures.value in
     omega (arith, r.long, asked.long, c.split_at.ensures.back_len)
 
 pub returns : goal.returns
@@ -28,7 +28,7 @@ returns c =
     let k = c.args.packet in
     let asked = packet_passed (held t) k (length c.args.buffer.now) c.in_ok-check_packet.ensures in
     let h : k - 1 < t.packets = omega (arith, asked.first, asked.last) in
-    let r = read (vec_items t.rows) t.sound (k - 1) h c.index.ensures c.as_slice-row.result.now c.as_slice-row.ensures.value in (
+    let r = read t h c.index.ensures c.as_slice-row.ensures.value in (
       sym c.in_ok-check_packet.ensures,
       c.if-not-is_bare.ensures,
       c.copy_from_slice.ensures.after ∙ c.split_at.ensures.back ∙ ap (drop t.packets) r.is,

@@ -1,31 +1,23 @@
-use Rattle.std.proofs.Common.{get_or, vec_items, sym, ap, ◌∙◌, arith}
-use Rattle.elimination.proofs.Tabling.{read}
+use Rattle.std.proofs.Common.{sym, arith, rules, tests}
+use Rattle.std.proofs.lemmas.List.{length-take-le}
+use Rattle.std.proofs.lemmas.Iterator.{cases_from_all, YieldsList-from_slice}
+use Rattle.std.proofs.lemmas.Iterator.Consumers.{YieldsList-from_enumerate}
+use Rattle.elimination.proofs.Tabling.{read, NoOther, Another, bare_cases}
 use Rattle.elimination.proofs.table.Table.is_bare.Goals as goal
 
 pub bounds-row-m : goal.bounds-row-m
 bounds-row-m c =
-    let r = read (vec_items c.args.self.now.rows) c.args.self.now.sound c.args.m c.requires c.index.ensures c.as_slice-row.result.now c.as_slice-row.ensures.value in
+    let r = read c.args.self.now c.requires c.index.ensures c.as_slice-row.ensures.value in
     omega (arith, r.long)
 
-pub returns-then-row-m-ne1 : goal.returns-then-row-m-ne1
-returns-then-row-m-ne1 c =
-    let r = read (vec_items c.args.self.now.rows) c.args.self.now.sound c.args.m c.requires c.index.ensures c.as_slice-row.result.now c.as_slice-row.ensures.value in
-    λ bare. c.if-row-m-ne1.true (ap (λ row. get_or row c.args.m 0) r.is ∙ bare.lead)
+pub slice_bounds-iter-end : goal.slice_bounds-iter-end
+slice_bounds-iter-end c =
+    let r = read c.args.self.now c.requires c.index.ensures c.as_slice-row.ensures.value in
+    sym (length-take-le c.args.self.now.packets c.as_slice-row.result.now (omega (arith, r.long)))
 
-pub bounds-row-i : goal.bounds-row-i
-bounds-row-i c =
-    let r = read (vec_items c.args.self.now.rows) c.args.self.now.sound c.args.m c.requires c.index.ensures c.as_slice-row.result.now c.as_slice-row.ensures.value in
-    omega (arith, r.long)
-
-pub returns-then-row-i-ne0 : goal.returns-then-row-i-ne0
-returns-then-row-i-ne0 c =
-    let r = read (vec_items c.args.self.now.rows) c.args.self.now.sound c.args.m c.requires c.index.ensures c.as_slice-row.result.now c.as_slice-row.ensures.value in
-    λ bare. c.if-row-i-ne0.true (ap (λ row. get_or row c.loop-i.i 0) r.is ∙ bare.others c.loop-i.i c.loop-i-test.true c.if-i-m.true)
-
-pub returns : goal.returns
-returns c =
-    let r = read (vec_items c.args.self.now.rows) c.args.self.now.sound c.args.m c.requires c.index.ensures c.as_slice-row.result.now c.as_slice-row.ensures.value in
-    record {
-      lead = ap (λ row. get_or row c.args.m 0) (sym r.is) ∙ c.if-row-m-ne1.false;
-      others = λ i h ne. ap (λ row. get_or row i 0) (sym r.is) ∙ c.loop-i.invariant i (omega arith) ne;
-    }
+pub returns-then-row-m-eq1 : goal.returns-then-row-m-eq1
+returns-then-row-m-eq1 c =
+    let m = c.args.m in
+    let r = read c.args.self.now c.requires c.index.ensures c.as_slice-row.ensures.value in
+    bare_cases r c.if-row-m-eq1.true c.all.result
+    (cases_from_all _ _ _ (NoOther m) (Another m) c.all.ensures.ran (YieldsList-from_enumerate (YieldsList-from_slice _ cc) cc) (λ x q k. search (rules, tests)) (λ x q k. search (rules, tests)))

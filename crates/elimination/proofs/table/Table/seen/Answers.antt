@@ -1,7 +1,9 @@
-use Rattle.std.proofs.Common.{ℕ, ◌<◌, length, vec_items, sym, refl, ◌∙◌, subst, inl, inr, lit<}
+use Rattle.std.proofs.Common.{◌≡◌, ◌<◌, get_or, length, vec_items, refl, ap, ◌∙◌, inl, inr, arith, lit<}
+use Rattle.std.proofs.lemmas.List.{get_or_read}
 use Rattle.elimination.specs.Reduction.{lists}
 use Rattle.elimination.specs.Tables.{seen_set}
-use Rattle.elimination.proofs.Sets.{read_code, read_wide, counted_turn}
+use Rattle.elimination.proofs.Sets.{counted_turn}
+use Rattle.elimination.proofs.Tabling.{read}
 use Rattle.elimination.proofs.table.Table.seen.Goals as goal
 use Rattle.elimination.proofs.table.Table.seen.Goals.{then-index-ne0, else-index-ne0}
 
@@ -9,25 +11,30 @@ pub loop-m-init : goal.loop-m-init
 unfolding seen_set
 loop-m-init c = (refl, lit< tt)
 
-pub index-requires-in-loop-m : goal.index-requires-in-loop-m
-index-requires-in-loop-m c =
-    let table = c.args.self.now in
-    let items = vec_items table.rows in
-    let hm : c.loop-m.m < length items = subst (λ (n : ℕ). c.loop-m.m < n) (sym table.tall ∙ table.rows.ok.0) c.loop-m-test.true in
-    let v = c.index.result.now in
-    subst (λ (n : ℕ). c.loop-m.m < n) (sym v.ok.0)
-    (read_wide table.q table.packets table.symbols items c.loop-m.m v table.sound hm c.loop-m-test.true c.index.ensures)
+pub index-requires : goal.index-requires
+index-requires c =
+    let t = c.args.self.now in
+    let m = c.loop-m.m in
+    let v = c.row-item.result in
+    let within : m < t.packets = omega (arith, c.loop-m-test.true, c.deref-row-items.ensures.len, t.tall) in
+    let r = read t within (c.row-item.is ∙ ap (λ rows. get_or rows m v) c.deref-row-items.ensures.value) refl in
+    omega (arith, r.long, within, v.ok.0)
 
 pub loop-m-preserved : goal.loop-m-preserved
 loop-m-preserved c =
-    let table = c.args.self.now in
-    let items = vec_items table.rows in
+    let t = c.args.self.now in
     let m = c.loop-m.m in
-    let v = c.index.result.now in
-    let x = c.index-in-loop-m.result.now in
-    let hm : m < length items = subst (λ (n : ℕ). m < n) (sym table.tall ∙ table.rows.ok.0) c.loop-m-test.true in
-    let wide = read_wide table.q table.packets table.symbols items m v table.sound hm c.loop-m-test.true c.index.ensures in
-    let code = read_code items m m v x hm wide c.index.ensures c.index-in-loop-m.ensures in
-    counted_turn table.q table.packets table.symbols (lists items) m c.loop-m.seen c.if-index-ne0.seen x table.sound c.loop-m-test.true table.few_packets
-    c.loop-m.invariant code
+    let v = c.row-item.result in
+    let x = c.index.result.now in
+    let within : m < t.packets = omega (arith, c.loop-m-test.true, c.deref-row-items.ensures.len, t.tall) in
+    let r = read t within (c.row-item.is ∙ ap (λ rows. get_or rows m v) c.deref-row-items.ensures.value) refl in
+    let wide : m < length (vec_items v) = omega (arith, r.long, within) in
+    counted_turn t m c.loop-m.seen c.if-index-ne0.seen x within c.loop-m.invariant
+    (get_or_read (vec_items v) m x wide c.index.ensures 0 ∙ ap (λ row. get_or row m 0) r.is)
     (elim c.if-index-ne0.branch [ then-index-ne0 w ↦ inl (w.if-index-ne0.true, w.seen-is) | else-index-ne0 w ↦ inr (w.if-index-ne0.false, w.seen-is) ])
+
+pub returns : goal.returns
+returns c =
+    let t = c.args.self.now in
+    let all : c.loop-m.m ≡ t.packets = omega (arith, c.loop-m-test.false, c.deref-row-items.ensures.len, t.tall) in
+    c.loop-m.invariant.0 ∙ ap (seen_set (lists (vec_items t.rows))) all
