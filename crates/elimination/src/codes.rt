@@ -28,6 +28,8 @@ pub(crate) fn check_pair(q: u32, first: &[u16], second: &[u16]) -> Result<(), Ro
     Ok(())
 }
 
+// `times`, `plus` and `less` differ by the operation alone: one function that took it as an argument would be no plainer.
+
 // The product of two codes.
 pub(crate) fn times<F: Field>(field: &F, a: u16, b: u16) -> u16
     requires a_code { a < (F.ops field.now).size }

@@ -41,6 +41,7 @@ pub(crate) fn subtract_codes<F: Field>(field: &F, target: &mut [u16], factor: u1
     ensures after { target.new ≡ less_multiple (F.ops field.now) target.old factor source.now }
     ensures codes { Codes (F.ops field.now).size target.new }
 {
+    // With an index into the source, since an invariant cannot say what a loop over `zip` wrote.
     for (i, code) in target.iter_mut().enumerate() {
         let product = times(field, factor, source[i]);
         *code = less(field, *code, product);

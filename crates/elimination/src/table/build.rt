@@ -40,10 +40,8 @@ impl Table {
         ensures rows { IfOk result (λ t. lists t.rows.items ≡ replicate packets (replicate (packets + symbols) 0)) }
         ensures table { IfOk result (λ t. held t ≡ empty_table q packets symbols) }
     {
-        let mut rows = Vec::new(heap);
-        for _row in 0..packets {
-            rows.push(vec![in heap; 0; packets + symbols]?)?;
-        }
+        let zeros = vec![in heap; 0; packets + symbols]?;
+        let rows = vec![in heap; zeros; packets]?;
         Ok(Table {
             q,
             packets,

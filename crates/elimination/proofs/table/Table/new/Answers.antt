@@ -1,38 +1,46 @@
-use Rattle.std.proofs.Common.{◌≡◌, ◌+◌, [], ◌∷◌, ◌++◌, replicate, vec_items, sym, refl, ap, ◌∙◌, subst, ap₂, arith}
-use Rattle.std.proofs.lemmas.List.{map_push, replicate_more}
+use Rattle.std.proofs.Common.{◌≡◌, ℕ, ◌+◌, List, [], ◌∷◌, length, replicate, vec_items, vec_len, Vec, sym, refl, ap, ◌∙◌, subst, ap₂, inl, inr}
+use Rattle.std.specs.List.{AllZip, AllClonesOf}
+use Rattle.std.specs.declared.alloc.Global.{Global}
+use Rattle.std.proofs.lemmas.List.{map-id}
+use Rattle.std.proofs.lemmas.Slice.Zip.{AllZip-map}
 use Rattle.elimination.specs.Reduction.{lists}
 use Rattle.elimination.specs.Sound.{Sound}
 use Rattle.elimination.proofs.Tabling.{sound_empty}
 use Rattle.elimination.proofs.table.Table.new.Goals as goal
 
-pub loop-row-preserved : goal.loop-row-preserved
-loop-row-preserved c =
-    let pushed = c.in_ok-push.ensures in
-    let zeros = c.in_ok-vec.ensures.items_if_clones_equal (λ y e. e) in (
-      pushed.len ∙ ap (λ m. m + 1) c.loop-row.invariant.0,
-      ap lists pushed.items ∙ map_push vec_items (vec_items c.loop-row.rows) c.in_ok-vec.field-0
-          ∙ ap₂ (λ rows row. rows ++ (row ∷ [])) c.loop-row.invariant.1 zeros ∙ replicate_more c.loop-row._row (replicate (c.args.packets + c.args.symbols) 0),
-    )
+abbrev Clones : Vec ℕ Global → List (Vec ℕ Global) → Type 0
+Clones row rows = AllClonesOf (λ v w. AllZip (λ a b. b ≡ a) (vec_items v) (vec_items w) × (vec_len w ≡ vec_len v)) row rows
+
+-- clones of a row have its codes
+cloned : (row : Vec ℕ Global) (rows : List (Vec ℕ Global)) → Clones row rows → lists rows ≡ replicate (length rows) (vec_items row)
+cloned row [] all = refl
+cloned row (y ∷ ys) all =
+    ap₂ (λ x xs. x ∷ xs) (elim all.0 [ inl e ↦ ap vec_items e | inr z ↦ AllZip-map (λ x. x) (vec_items row) (vec_items y) z.0 ∙ map-id (vec_items row) ]) (cloned row ys all.1)
+
+-- so n clones of zeros are an empty table's rows
+empty : (zeros : Vec ℕ Global) (rows : Vec (Vec ℕ Global) Global) (n w : ℕ) → Clones zeros (vec_items rows) → vec_len rows ≡ n → vec_items zeros ≡ replicate w 0 → lists (vec_items rows) ≡ replicate n (replicate w 0)
+empty zeros rows n w all long e = cloned zeros (vec_items rows) all ∙ ap₂ replicate (sym rows.ok.0 ∙ long) e
 
 pub invariant_of-result : goal.invariant_of-result
 invariant_of-result c =
     let n = c.args.packets in
     let l = c.args.symbols in
-    let all : c.loop-row._row ≡ n = omega arith in
+    let made = c.in_ok-rows.ensures in
+    let rows = empty c.in_ok-zeros.zeros c.in_ok-rows.rows n (n + l) made.items made.len (c.in_ok-zeros.ensures.items_if_clones_equal (λ y e. e)) in
     record {
       few_packets = c.requires.few_packets;
       few_symbols = c.requires.few_symbols;
       some_symbols = c.requires.some_symbols;
-      tall = c.loop-row.invariant.0 ∙ all;
-      sound = ∣ subst (Sound c.args.q n l) (sym (c.loop-row.invariant.1 ∙ ap (λ m. replicate m (replicate (n + l) 0)) all)) (sound_empty c.args.q n l c.requires.size) ∣₁;
+      tall = made.len;
+      sound = ∣ subst (Sound c.args.q n l) (sym rows) (sound_empty c.args.q n l c.requires.size) ∣₁;
     }
 
 pub returns : goal.returns
 returns c =
     let n = c.args.packets in
     let l = c.args.symbols in
-    let all : c.loop-row._row ≡ n = omega arith in
-    let rows = c.loop-row.invariant.1 ∙ ap (λ m. replicate m (replicate (n + l) 0)) all in
+    let made = c.in_ok-rows.ensures in
+    let rows = empty c.in_ok-zeros.zeros c.in_ok-rows.rows n (n + l) made.items made.len (c.in_ok-zeros.ensures.items_if_clones_equal (λ y e. e)) in
     record {
       size = refl;
       packets = refl;
