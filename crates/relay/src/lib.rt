@@ -47,29 +47,23 @@ impl<F: Field + Drop> Relay<F> {
     pub fn hear(&mut self, frame: &[u16]) -> Result<usize, RowsFault>
         ensures { Hears (state F.ops self.old) frame.now result (state F.ops self.new) }
     {
-        match &mut self.place {
-            Some(started) => started.hear(frame),
-            None => Err(RowsFault::NotStarted),
-        }
+        let started = self.place.as_mut().ok_or(RowsFault::NotStarted)?;
+        started.hear(frame)
     }
 
     // The packets seen, as a set: bit k - 1 for packet k.
     pub fn seen(&self) -> Result<u32, RowsFault>
         ensures { result ≡ seen_answer (state F.ops self.now) }
     {
-        match &self.place {
-            Some(started) => started.seen(),
-            None => Err(RowsFault::NotStarted),
-        }
+        let started = self.place.as_ref().ok_or(RowsFault::NotStarted)?;
+        started.seen()
     }
 
     // Writes a determined packet into a buffer.
     pub fn fetch(&self, packet: usize, buffer: &mut [u16]) -> Result<(), RowsFault>
         ensures { Fetches (state F.ops self.now) packet buffer.old result buffer.new }
     {
-        match &self.place {
-            Some(started) => started.fetch(packet, buffer),
-            None => Err(RowsFault::NotStarted),
-        }
+        let started = self.place.as_ref().ok_or(RowsFault::NotStarted)?;
+        started.fetch(packet, buffer)
     }
 }
