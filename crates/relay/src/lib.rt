@@ -9,13 +9,14 @@ ghost use Rattle.relay.specs.States.{State, state};
 mod started;
 
 use elimination::fault::RowsFault;
+use elimination::heard::Heard;
 use elimination::table::Table;
 use field::Field;
 use started::Started;
 use std::alloc::Global;
 
 #[derive(Drop)]
-pub struct Relay<F> {
+pub struct Relay<F: Field> {
     place: Option<Started<F>>,
 }
 
@@ -48,7 +49,11 @@ impl<F: Field + Drop> Relay<F> {
         ensures { Hears (state F.ops self.old) frame.now result (state F.ops self.new) }
     {
         let started = self.place.as_mut().ok_or(RowsFault::NotStarted)?;
-        started.hear(frame)
+        match started.table.hear(&started.field, frame)? {
+            Heard::New(lead) => Ok(lead + 1),
+            Heard::Spanned => Ok(0),
+            Heard::Conflict => Err(RowsFault::Conflict),
+        }
     }
 
     // The packets seen, as a set: bit k - 1 for packet k.
@@ -56,7 +61,7 @@ impl<F: Field + Drop> Relay<F> {
         ensures { result ≡ seen_answer (state F.ops self.now) }
     {
         let started = self.place.as_ref().ok_or(RowsFault::NotStarted)?;
-        started.seen()
+        Ok(started.table.seen())
     }
 
     // Writes a determined packet into a buffer.
@@ -64,6 +69,6 @@ impl<F: Field + Drop> Relay<F> {
         ensures { Fetches (state F.ops self.now) packet buffer.old result buffer.new }
     {
         let started = self.place.as_ref().ok_or(RowsFault::NotStarted)?;
-        started.fetch(packet, buffer)
+        started.table.fetch(packet, buffer)
     }
 }
