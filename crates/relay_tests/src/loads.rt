@@ -5,6 +5,7 @@ use field::gf2::Gf2;
 use field::gf256::Gf256;
 use field::modulo_257::Modulo257;
 use relay::Relay;
+use std::alloc::Global;
 use std::process::Abort;
 use std::test::Fail;
 
@@ -35,30 +36,28 @@ const GF2: [Step; 4] = [
 
 #[test]
 fn modulo_257(rt: HostRuntime) -> Result<(), Fail> {
-    let mut relay = Relay::empty();
-    relay.start(rt.alloc(), Modulo257, 3, 1)?;
-    check_steps(&rt, &mut relay, &MODULO_257)
+    check_steps(&rt, rt.alloc(), Modulo257, &MODULO_257)
 }
 
 #[test]
 fn gf256(rt: HostRuntime) -> Result<(), Fail> {
-    let mut relay = Relay::empty();
-    relay.start(rt.alloc(), Gf256, 3, 1)?;
-    check_steps(&rt, &mut relay, &GF256)
+    check_steps(&rt, rt.alloc(), Gf256, &GF256)
 }
 
 #[test]
 fn gf2(rt: HostRuntime) -> Result<(), Fail> {
-    let mut relay = Relay::empty();
-    relay.start(rt.alloc(), Gf2, 3, 1)?;
-    check_steps(&rt, &mut relay, &GF2)
+    check_steps(&rt, rt.alloc(), Gf2, &GF2)
 }
 
+// Checks a relay that is started over the field, step after step.
 fn check_steps<F: Field + Drop>(
     rt: &impl Abort,
-    relay: &mut Relay<F>,
+    heap: Global,
+    field: F,
     steps: &[Step],
 ) -> Result<(), Fail> {
+    let mut relay = Relay::empty();
+    relay.start(heap, field, 3, 1)?;
     let mut seen = 0;
     for (frame, shown, read) in steps {
         assert_eq!(rt; relay.hear(frame), Ok(*shown));
@@ -66,8 +65,8 @@ fn check_steps<F: Field + Drop>(
             seen |= 1 << (*shown - 1);
         }
         assert_eq!(rt; relay.seen(), Ok(seen));
-        for k in 0..3 {
-            check_packet(rt, relay, k + 1, read[k])?;
+        for (k, symbol) in read.iter().enumerate() {
+            check_packet(rt, &relay, k + 1, *symbol);
         }
     }
     Ok(())
@@ -79,19 +78,13 @@ fn check_packet<F: Field + Drop>(
     relay: &Relay<F>,
     packet: usize,
     symbol: Option<u16>,
-) -> Result<(), Fail> {
+) {
     let mut buffer = [999];
     let answer = relay.fetch(packet, &mut buffer);
-    match symbol {
-        Some(code) => {
-            assert_eq!(rt; answer, Ok(()));
-            assert_eq!(rt; buffer, [code]);
-            Ok(())
-        }
-        None => {
-            assert_eq!(rt; answer, Err(RowsFault::NotDetermined));
-            assert_eq!(rt; buffer, [999]);
-            Ok(())
-        }
-    }
+    let (expected, code) = match symbol {
+        Some(code) => (Ok(()), code),
+        None => (Err(RowsFault::NotDetermined), 999),
+    };
+    assert_eq!(rt; answer, expected);
+    assert_eq!(rt; buffer, [code]);
 }
