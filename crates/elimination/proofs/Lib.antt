@@ -5,4 +5,5 @@ pub mod Storing
 pub mod Tabling
 pub mod Sets
 pub mod Accepting
+mod Taking
 mod Vetoing

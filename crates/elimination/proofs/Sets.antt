@@ -43,15 +43,15 @@ counted_none rows m s c e = (
 )
 
 -- one turn of counting
-pub counted_turn : (t : Table) (m s next x : ℕ) → m < t.packets → Counted (lists (vec_items t.rows)) m s → x ≡ row_at (lists (vec_items t.rows)) m m
+pub counted_turn : (t : Table) (m s next x : ℕ) → m < t.shape.packets → Counted (lists (vec_items t.rows)) m s → x ≡ row_at (lists (vec_items t.rows)) m m
     → ((x ≡ 0 → ⊥) × (next ≡ bit_or s ((1 * 2 ^ m) % 4294967296))) ⊎ ((x ≡ 0) × (next ≡ s)) → Counted (lists (vec_items t.rows)) (m + 1) next
 counted_turn t m s next x h c e (inl there) =
-    subst (Counted rows (m + 1)) (sym there.1) (counted_one rows m s (omega (arith, h, t.few_packets)) c (lead (sound.reduced.lead m h)))
+    subst (Counted rows (m + 1)) (sym there.1) (counted_one rows m s (omega (arith, h, t.shape.few_packets)) c (lead (sound.reduced.lead m h)))
   where
     rows : List (List ℕ)
     rows = lists (vec_items t.rows)
 
-    sound : Sound t.q t.packets t.symbols rows
+    sound : Sound t.q t.shape.packets t.shape.symbols rows
     sound = sound_at refl t.sound
 
     lead : (row_at rows m m ≡ 1) ⊎ ((i : ℕ) → row_at rows m i ≡ 0) → row_at rows m m ≡ 1

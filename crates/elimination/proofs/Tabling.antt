@@ -186,9 +186,9 @@ pub record Read (n l m : ℕ) (rows : List (List ℕ)) (row : List ℕ) : Type 0
   pub is : row ≡ get_or rows m []
   pub long : length row ≡ n + l
 
-pub read : (t : Table) {m : ℕ} {v : Vec ℕ Global} {row : List ℕ} → m < t.packets → v ≡ get_or (vec_items t.rows) m v → row ≡ vec_items v → Read t.packets t.symbols m (lists (vec_items t.rows)) row
+pub read : (t : Table) {m : ℕ} {v : Vec ℕ Global} {row : List ℕ} → m < t.shape.packets → v ≡ get_or (vec_items t.rows) m v → row ≡ vec_items v → Read t.shape.packets t.shape.symbols m (lists (vec_items t.rows)) row
 read t {m} {v} {row} h e same =
-    let s : Sound t.q t.packets t.symbols (lists (vec_items t.rows)) = sound_at refl t.sound in
+    let s : Sound t.q t.shape.packets t.shape.symbols (lists (vec_items t.rows)) = sound_at refl t.sound in
     let here : m < length (lists (vec_items t.rows)) = subst (λ (x : ℕ). m < x) (sym s.reduced.tall) h in
     let is : row ≡ get_or (lists (vec_items t.rows)) m [] = read_row (vec_items t.rows) m v row (subst (λ (x : ℕ). m < x) (length-map (vec_items t.rows) vec_items) here) e same in
     record { is = is; long = ap length is ∙ (s.frames m here).long }

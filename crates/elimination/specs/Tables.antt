@@ -10,6 +10,7 @@ use Rattle.elimination.specs.declared.fault.RowsFault.{RowsFault}
 use Rattle.elimination.specs.declared.fault.RowsFault.TheVariants.{NotStarted, WrongSize, WrongLength, NoPacket, NotDetermined, NoMemory, Field}
 use Rattle.elimination.specs.declared.heard.Heard.{Heard}
 use Rattle.elimination.specs.declared.heard.Heard.TheVariants.{New, Spanned, Conflict}
+use Rattle.elimination.specs.declared.table.Shape.{Shape}
 use Rattle.elimination.specs.declared.table.Table.{Table}
 use Rattle.elimination.specs.Reduction.{lists, rest_row, NoCoefficient, FirstCoefficient, multiple, with_row}
 use Rattle.elimination.specs.Rows.{are_codes}
@@ -22,11 +23,16 @@ pub record Held : Type 0 where
   pub rows : List (List ℕ)
 
 abbrev pub held : Table → Held
-held t = record { size = t.q; packets = t.packets; symbols = t.symbols; rows = lists (vec_items t.rows) }
+held t = record { size = t.q; packets = t.shape.packets; symbols = t.shape.symbols; rows = lists (vec_items t.rows) }
 
 -- both sizes are 1 to 32
 abbrev pub size_answer : ℕ → ℕ → Result (Unit {0}) RowsFault
 size_answer n l = cond (nat_le 1 n && (nat_le n 32 && (nat_le 1 l && nat_le l 32))) (Ok tt) (Err WrongSize)
+
+-- a shape has the sizes that it was made for
+abbrev pub Shaped : ℕ → ℕ → Result Shape RowsFault → Type 0
+Shaped n l (Ok s) = (size_answer n l ≡ Ok tt) × (s.packets ≡ n) × (s.symbols ≡ l)
+Shaped n l (Err e) = size_answer n l ≡ Err e
 
 -- a table without rows: each is zeros
 abbrev pub empty_table : ℕ → ℕ → ℕ → Held

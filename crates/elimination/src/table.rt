@@ -7,15 +7,22 @@ mod ask;
 mod build;
 mod take_in;
 
+// How many coefficients a frame has, one for each packet, and how many symbols: 1 to 32 of each.
+#[derive(Clone, Copy)]
+pub(crate) struct Shape {
+    packets: usize,
+    symbols: usize,
+    ghost some_packets: { 1 ≤ packets },
+    ghost few_packets: { packets ≤ 32 },
+    ghost some_symbols: { 1 ≤ symbols },
+    ghost few_symbols: { symbols ≤ 32 },
+}
+
 #[derive(Drop)]
 pub struct Table {
     q: u32,
-    packets: usize,
-    symbols: usize,
+    shape: Shape,
     rows: Vec<Vec<u16>>,
-    ghost few_packets: { packets ≤ 32 },
-    ghost few_symbols: { symbols ≤ 32 },
-    ghost some_symbols: { 1 ≤ symbols },
-    ghost tall: { vec_len rows ≡ packets },
-    ghost sound: { ∥ Sound q packets symbols (lists rows.items) ∥₁ },
+    ghost tall: { vec_len rows ≡ shape.packets },
+    ghost sound: { ∥ Sound q shape.packets shape.symbols (lists rows.items) ∥₁ },
 }

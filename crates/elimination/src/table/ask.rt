@@ -18,7 +18,7 @@ impl Table {
 
     // The packets that are seen, as a set: bit m for packet m, counted from 0.
     pub fn seen(&self) -> u32
-        ensures { result ≡ seen_set (lists self.now.rows.items) self.now.packets }
+        ensures { result ≡ seen_set (lists self.now.rows.items) self.now.shape.packets }
     {
         let mut seen = 0;
         for (m, row) in self.rows.iter().enumerate() {
@@ -38,7 +38,7 @@ impl Table {
             return Err(RowsFault::NotDetermined);
         }
         let row = self.rows[packet - 1].as_slice();
-        let (_, symbols) = row.split_at(self.packets);
+        let (_, symbols) = row.split_at(self.shape.packets);
         buffer.copy_from_slice(symbols);
         Ok(())
     }
@@ -47,10 +47,10 @@ impl Table {
     fn check_packet(&self, packet: usize, len: usize) -> Result<(), RowsFault>
         ensures { result ≡ packet_answer (held self.now) packet len }
     {
-        if len != self.symbols {
+        if len != self.shape.symbols {
             return Err(RowsFault::WrongLength);
         }
-        if packet < 1 || packet > self.packets {
+        if packet < 1 || packet > self.shape.packets {
             return Err(RowsFault::NoPacket);
         }
         Ok(())
@@ -58,12 +58,12 @@ impl Table {
 
     // Whether row m is there and has no coefficient but its lead.
     fn is_bare(&self, m: usize) -> bool
-        requires { m < self.now.packets }
+        requires { m < self.now.shape.packets }
         ensures { MatchBool result (Bare (held self.now).packets (held self.now).rows m) (Bare (held self.now).packets (held self.now).rows m → ⊥) }
     {
         let row = self.rows[m].as_slice();
         row[m] == 1
-            && row[..self.packets]
+            && row[..self.shape.packets]
                 .iter()
                 .enumerate()
                 .all(|(i, code)| i == m || *code == 0)

@@ -27,7 +27,7 @@ impl Table {
         if field.size() != self.q {
             return Err(RowsFault::NotStarted);
         }
-        if frame.len() != self.packets + self.symbols {
+        if frame.len() != self.shape.width() {
             return Err(RowsFault::WrongLength);
         }
         check_codes(self.q, frame)?;
@@ -37,15 +37,14 @@ impl Table {
     // Takes in a frame that is one for this table.
     pub(crate) fn take_in<F: Field>(&mut self, field: &F, frame: &[u16]) -> Heard
         requires field { self.old.q ≡ (F.ops field.now).size }
-        requires frame { Frame self.old.q (self.old.packets + self.old.symbols) frame.now }
+        requires frame { Frame self.old.q (self.old.shape.packets + self.old.shape.symbols) frame.now }
         ensures rows { TakenIn (F.ops field.now) (lists self.old.rows.items) frame.now result (lists self.new.rows.items) }
         ensures size { self.new.q ≡ self.old.q }
-        ensures packets { self.new.packets ≡ self.old.packets }
-        ensures symbols { self.new.symbols ≡ self.old.symbols }
+        ensures shape { self.new.shape ≡ self.old.shape }
         ensures taken { Taken (F.ops field.now) (held self.old) frame.now result (held self.new) }
     {
         let mut buffer = [0; 64];
-        let row = &mut buffer[0..self.packets + self.symbols];
+        let row = &mut buffer[..self.shape.width()];
         let Some(lead) = new_row(field, self.rows.as_slice(), frame, row) else {
             return if all_zero(row) {
                 Heard::Spanned

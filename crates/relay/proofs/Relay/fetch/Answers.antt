@@ -12,4 +12,4 @@ returns g c =
     let laws = g.met.F.Field.lawful s.field in
     let place : c.args.self.now.place ≡ Some s = sym c.as_ref.ensures.value ∙ ap option_copied c.in_ok-started.ensures.ok_part in
     rw place
-    (fetched o laws (held s.table) (sound_at s.fits s.table.sound) s.table.some_symbols c.args.packet c.args.buffer.now c.fetch.result c.fetch.new.buffer c.fetch.ensures)
+    (fetched o laws (held s.table) (sound_at s.fits s.table.sound) s.table.shape.some_symbols c.args.packet c.args.buffer.now c.fetch.result c.fetch.new.buffer c.fetch.ensures)

@@ -9,7 +9,7 @@ split_at-requires c =
     let t = c.args.self.now in
     let k = c.args.packet in
     let asked = packet_passed (held t) k (length c.args.buffer.now) c.in_ok-check_packet.ensures in
-    let h : k - 1 < t.packets = omega (arith, asked.first, asked.last) in
+    let h : k - 1 < t.shape.packets = omega (arith, asked.first, asked.last) in
     let r = read t h c.index.ensures c.as_slice-row.ensures.value in
     omega (arith, r.long)
 
@@ -18,7 +18,7 @@ copy_from_slice-requires c =
     let t = c.args.self.now in
     let k = c.args.packet in
     let asked = packet_passed (held t) k (length c.args.buffer.now) c.in_ok-check_packet.ensures in
-    let h : k - 1 < t.packets = omega (arith, asked.first, asked.last) in
+    let h : k - 1 < t.shape.packets = omega (arith, asked.first, asked.last) in
     let r = read t h c.index.ensures c.as_slice-row.ensures.value in
     omega (arith, r.long, asked.long, c.split_at.ensures.back_len)
 
@@ -27,9 +27,9 @@ returns c =
     let t = c.args.self.now in
     let k = c.args.packet in
     let asked = packet_passed (held t) k (length c.args.buffer.now) c.in_ok-check_packet.ensures in
-    let h : k - 1 < t.packets = omega (arith, asked.first, asked.last) in
+    let h : k - 1 < t.shape.packets = omega (arith, asked.first, asked.last) in
     let r = read t h c.index.ensures c.as_slice-row.ensures.value in (
       sym c.in_ok-check_packet.ensures,
       c.if-not-is_bare.ensures,
-      c.copy_from_slice.ensures.after ∙ c.split_at.ensures.back ∙ ap (drop t.packets) r.is,
+      c.copy_from_slice.ensures.after ∙ c.split_at.ensures.back ∙ ap (drop t.shape.packets) r.is,
     )

@@ -13,7 +13,7 @@ bounds-row-m c =
 pub slice_bounds-iter-end : goal.slice_bounds-iter-end
 slice_bounds-iter-end c =
     let r = read c.args.self.now c.requires c.index.ensures c.as_slice-row.ensures.value in
-    sym (length-take-le c.args.self.now.packets c.as_slice-row.result.now (omega (arith, r.long)))
+    sym (length-take-le c.args.self.now.shape.packets c.as_slice-row.result.now (omega (arith, r.long)))
 
 pub returns-then-row-m-eq1 : goal.returns-then-row-m-eq1
 returns-then-row-m-eq1 c =

@@ -23,28 +23,24 @@ empty zeros rows n w all long e = cloned zeros (vec_items rows) all ∙ ap₂ re
 
 pub invariant_of-result : goal.invariant_of-result
 invariant_of-result c =
-    let n = c.args.packets in
-    let l = c.args.symbols in
+    let n = c.args.shape.packets in
+    let l = c.args.shape.symbols in
     let made = c.in_ok-rows.ensures in
-    let rows = empty c.in_ok-zeros.zeros c.in_ok-rows.rows n (n + l) made.items made.len (c.in_ok-zeros.ensures.items_if_clones_equal (λ y e. e)) in
+    let rows = empty c.in_ok-zeros.zeros c.in_ok-rows.rows n (n + l) made.items made.len (c.in_ok-zeros.ensures.items_if_clones_equal (λ y e. e) ∙ ap (λ w. replicate w 0) c.width.ensures) in
     record {
-      few_packets = c.requires.few_packets;
-      few_symbols = c.requires.few_symbols;
-      some_symbols = c.requires.some_symbols;
       tall = made.len;
-      sound = ∣ subst (Sound c.args.q n l) (sym rows) (sound_empty c.args.q n l c.requires.size) ∣₁;
+      sound = ∣ subst (Sound c.args.q n l) (sym rows) (sound_empty c.args.q n l c.requires) ∣₁;
     }
 
 pub returns : goal.returns
 returns c =
-    let n = c.args.packets in
-    let l = c.args.symbols in
+    let n = c.args.shape.packets in
+    let l = c.args.shape.symbols in
     let made = c.in_ok-rows.ensures in
-    let rows = empty c.in_ok-zeros.zeros c.in_ok-rows.rows n (n + l) made.items made.len (c.in_ok-zeros.ensures.items_if_clones_equal (λ y e. e)) in
+    let rows = empty c.in_ok-zeros.zeros c.in_ok-rows.rows n (n + l) made.items made.len (c.in_ok-zeros.ensures.items_if_clones_equal (λ y e. e) ∙ ap (λ w. replicate w 0) c.width.ensures) in
     record {
       size = refl;
-      packets = refl;
-      symbols = refl;
+      shape = refl;
       rows = rows;
       table = ap (λ rows. record { size = c.args.q; packets = n; symbols = l; rows = rows }) rows;
     }

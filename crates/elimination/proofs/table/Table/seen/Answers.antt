@@ -16,7 +16,7 @@ index-requires c =
     let t = c.args.self.now in
     let m = c.loop-m.m in
     let v = c.row-item.result in
-    let within : m < t.packets = omega (arith, c.loop-m-test.true, c.deref-row-items.ensures.len, t.tall) in
+    let within : m < t.shape.packets = omega (arith, c.loop-m-test.true, c.deref-row-items.ensures.len, t.tall) in
     let r = read t within (c.row-item.is ∙ ap (λ rows. get_or rows m v) c.deref-row-items.ensures.value) refl in
     omega (arith, r.long, within, v.ok.0)
 
@@ -26,7 +26,7 @@ loop-m-preserved c =
     let m = c.loop-m.m in
     let v = c.row-item.result in
     let x = c.index.result.now in
-    let within : m < t.packets = omega (arith, c.loop-m-test.true, c.deref-row-items.ensures.len, t.tall) in
+    let within : m < t.shape.packets = omega (arith, c.loop-m-test.true, c.deref-row-items.ensures.len, t.tall) in
     let r = read t within (c.row-item.is ∙ ap (λ rows. get_or rows m v) c.deref-row-items.ensures.value) refl in
     let wide : m < length (vec_items v) = omega (arith, r.long, within) in
     counted_turn t m c.loop-m.seen c.if-index-ne0.seen x within c.loop-m.invariant
@@ -36,5 +36,5 @@ loop-m-preserved c =
 pub returns : goal.returns
 returns c =
     let t = c.args.self.now in
-    let all : c.loop-m.m ≡ t.packets = omega (arith, c.loop-m-test.false, c.deref-row-items.ensures.len, t.tall) in
+    let all : c.loop-m.m ≡ t.shape.packets = omega (arith, c.loop-m-test.false, c.deref-row-items.ensures.len, t.tall) in
     c.loop-m.invariant.0 ∙ ap (seen_set (lists (vec_items t.rows))) all
