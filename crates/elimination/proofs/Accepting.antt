@@ -4,9 +4,9 @@ use Rattle.std.proofs.lemmas.Bool.{eqb-true, eq-eqb, leb-true, le-leb, and_parts
 use Rattle.faults.proofs.Passed.{passed}
 use Rattle.field.specs.Fields.{Ops}
 use Rattle.field.specs.declared.fault.FieldFault.TheVariants.{CodeTooLarge}
-use Rattle.algebra.specs.Frames.{Codes, Frame}
+use Rattle.algebra.specs.Frames.{Frame}
 use Rattle.elimination.specs.declared.fault.RowsFault.TheVariants.{NotStarted, WrongSize, WrongLength, NoPacket, Field}
-use Rattle.elimination.specs.Rows.{are_codes, pair_answer}
+use Rattle.elimination.specs.Rows.{are_codes}
 use Rattle.elimination.specs.Tables.{Held, size_answer, frame_answer, packet_answer}
 use Rattle.elimination.proofs.Below.{codes_from_test, test_from_codes}
 
@@ -74,16 +74,3 @@ packet_passes t k len asked =
     let numbers = cond (leb 1 k && leb k t.packets) (Ok tt) (Err NoPacket) in
     cond-true (eqb len t.symbols) numbers (Err WrongLength) (eq-eqb len t.symbols asked.long)
     ∙ cond-true (leb 1 k && leb k t.packets) (Ok tt) (Err NoPacket) (and_from (leb 1 k) (leb k t.packets) (le-leb 1 k asked.first) (le-leb k t.packets asked.last))
-
--- two slices of codes of one length
-pub record Paired (q : ℕ) (a b : List ℕ) : Type 0 where
-  pub long : length b ≡ length a
-  pub first : Codes q a
-  pub second : Codes q b
-
-pub pair_passed : (q : ℕ) (a b : List ℕ) → Ok (tt {0}) ≡ pair_answer q a b → Paired q a b
-pair_passed q a b ok =
-    let codes = cond (are_codes q a && are_codes q b) (Ok tt) (Err (Field CodeTooLarge)) in
-    let long = passed (eqb (length b) (length a)) tt codes WrongLength ok in
-    let both = and_parts (are_codes q a) (are_codes q b) (passed (are_codes q a && are_codes q b) tt (Ok tt) (Field CodeTooLarge) long.1).0 in
-    record { long = eqb-true (length b) (length a) long.0; first = codes_from_test q a both.0; second = codes_from_test q b both.1 }

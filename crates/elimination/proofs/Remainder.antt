@@ -96,9 +96,3 @@ module _ (o : Ops) (laws : Lawful o) (rows : List (List ℕ)) (f : List ℕ) whe
 pub length_rest : (o : Ops) (rows : List (List ℕ)) (f : List ℕ) → length (rest_row o rows f) ≡ length f
 unfolding rest_row
 length_rest o rows f = length-map-range_with_len (rest_at o (length rows) rows f) 0 (length f)
-
--- what is left of a frame has a place for each row
-pub row_places : (o : Ops) (table : List (Vec ℕ Global)) (f room rest : List ℕ) → Reducible o.size (lists table) f room → rest ≡ rest_row o (lists table) f → length table ≤ length rest
-row_places o table f room rest ok e =
-    let long : length rest ≡ length f = ap length e ∙ length_rest o (lists table) f in
-    omega (arith, length-map table vec_items, ok.fewer)

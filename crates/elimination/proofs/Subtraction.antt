@@ -1,33 +1,16 @@
 -- What is left of a row of codes when a multiple of another is taken away. Assumes nothing.
 use Rattle.std.proofs.Common.{◌≡◌, ℕ, ◌<◌, cond, ◌&&◌, eqb, ltb, List, length, get_or, Ok, Err, sym, ◌∙◌, subst, arith}
 use Rattle.std.proofs.lemmas.List.FromFn.{fill_by_all, get_or-map-range_with_len, length-map-range_with_len}
-use Rattle.std.proofs.lemmas.Bool.{eqb-true, eq-eqb, lt-ltb, ltb-true, and_parts, and_from, cond-true}
-use Rattle.faults.proofs.Passed.{passed}
+use Rattle.std.proofs.lemmas.Bool.{eq-eqb, lt-ltb, and_from, cond-true}
 use Rattle.field.specs.Fields.{Ops, Lawful}
 use Rattle.field.specs.declared.fault.FieldFault.TheVariants.{CodeTooLarge}
 use Rattle.elimination.specs.declared.fault.RowsFault.{RowsFault}
 use Rattle.elimination.specs.declared.fault.RowsFault.TheVariants.{WrongLength, Field}
 use Rattle.algebra.specs.Frames.{Codes}
 use Rattle.elimination.specs.Rows.{are_codes, Subtractable, less_at, less_multiple, subtract_answer}
-use Rattle.elimination.proofs.Below.{codes_from_test, test_from_codes}
+use Rattle.elimination.proofs.Below.{test_from_codes}
 
--- what is accepted can be subtracted
-pub accepted : (q : ℕ) (t : List ℕ) (f : ℕ) (s : List ℕ) → Ok (tt {0}) ≡ subtract_answer q t f s → Subtractable q t f s
-accepted q t f s ok =
-    let long = passed (eqb (length s) (length t)) tt (cond (are_codes q t && (are_codes q s && ltb f q)) (Ok tt) (Err (Field CodeTooLarge))) WrongLength ok in
-    let all = and_parts (are_codes q t) (are_codes q s && ltb f q) (passed (are_codes q t && (are_codes q s && ltb f q)) tt (Ok tt) (Field CodeTooLarge) long.1).0 in
-    let rest = and_parts (are_codes q s) (ltb f q) all.1 in
-    record {
-      long = eqb-true (length s) (length t) long.0;
-      target_codes = codes_from_test q t all.0;
-      source_codes = codes_from_test q s rest.0;
-      factor_code = ltb-true f q rest.1;
-    }
-
-pub accepted_at : {q p : ℕ} {t : List ℕ} {f : ℕ} {s : List ℕ} → q ≡ p → Ok (tt {0}) ≡ subtract_answer q t f s → Subtractable p t f s
-accepted_at {q} {p} {t} {f} {s} e ok = subst (λ (n : ℕ). Subtractable n t f s) e (accepted q t f s ok)
-
--- and what can be subtracted is accepted
+-- what can be subtracted is accepted
 pub fit_accepted : (q : ℕ) (t : List ℕ) (f : ℕ) (s : List ℕ) → Subtractable q t f s → subtract_answer q t f s ≡ Ok (tt {0})
 fit_accepted q t f s fit =
     cond-true (eqb (length s) (length t)) (cond (are_codes q t && (are_codes q s && ltb f q)) (Ok tt) (Err (Field CodeTooLarge))) (Err WrongLength)
@@ -38,9 +21,7 @@ fit_accepted q t f s fit =
 
 pub never_refused : (q : ℕ) (t : List ℕ) (f : ℕ) (s : List ℕ) (e : RowsFault) → Subtractable q t f s → Err e ≡ subtract_answer q t f s → ⊥
 never_refused q t f s e fit no_way =
-    let ok = fit_accepted q t f s fit in
-    let z : ◌≡◌ {A = ℕ} 0 1 = cc in
-    absurd (omega arith)
+    let ok = fit_accepted q t f s fit in cc
 
 module _ (o : Ops) (laws : Lawful o) (t : List ℕ) (f : ℕ) (s : List ℕ) where
   -- at each place it is a code

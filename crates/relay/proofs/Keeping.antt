@@ -1,6 +1,6 @@
 -- A relay keeps its promise. Assumes nothing.
 use Rattle.std.proofs.Common.{◌≡◌, ℕ, zero, suc, ◌+◌, ◌-◌, ◌^◌, ◌<◌, ◌≤◌, true, false, ◌↔◌, List, [], ◌∷◌, length, is_ok, Some, Ok, Err, Option, Result, sym, refl, ap, ◌∙◌, subst, inl, inr, arith}
-use Rattle.std.proofs.lemmas.Bool.{cases_eq}
+use Rattle.std.proofs.lemmas.Bool.{cases_eq, false≢true}
 use Rattle.faults.proofs.Passed.{passed_later}
 use Rattle.field.specs.Fields.{Ops, Lawful}
 use Rattle.algebra.specs.Frames.{code_at, Frame, InSpan}
@@ -16,9 +16,6 @@ use Rattle.relay.specs.Calls.{Hears, HeardBy, seen_answer, Fetches, FetchedBy}
 use Rattle.relay.specs.Promise.{Hearing, Reached, added, accepted, Has, Acceptable, Promise}
 use Rattle.relay.specs.States.{State, holding}
 use Rattle.relay.proofs.Bits.{seen_below, seen_bit}
-
-never : {X : Type 0} → false ≡ true → X
-never h = let z : ◌≡◌ {A = ℕ} 0 1 = cc in absurd (omega arith)
 
 -- a relay in state t whose rows are the reduced form of these frames
 record Standing (o : Ops) (n l : ℕ) (fs : List (List ℕ)) (t : Option State) : Type 0 where
@@ -94,12 +91,12 @@ module _ (o : Ops) (laws : Lawful o) (n l : ℕ) where
       accepts : (r : Result ℕ RowsFault) (t : Option State) → HeardBy (holding o n l rows) f r t → (is_ok r ≡ true) ↔ Acceptable o n l fs f
       accepts (Ok zero) t (ok, inside, same) = ((λ _. acceptable rows (frame_of ok) (form_same (frame_of ok) inside)), (λ _. refl))
       accepts (Ok (suc a)) t (ok, (u, (put, is))) = ((λ _. acceptable u.rows (frame_of ok) (form_more a u put)), (λ _. refl))
-      accepts (Err e) t heard = (never, (λ a. absurd (refused_none e t heard a)))
+      accepts (Err e) t heard = ((λ z. absurd (false≢true z)), (λ a. absurd (refused_none e t heard a)))
 
       shows : (r : Result ℕ RowsFault) (t : Option State) → HeardBy (holding o n l rows) f r t → (m : ℕ) → m < n
           → (r ≡ Ok (suc m)) ↔ (Acceptable o n l fs f × (Seen o (f ∷ fs) m × (Seen o fs m → ⊥)))
       shows (Ok zero) t (ok, inside, same) m h = (
-        (λ e. let z : ◌≡◌ {A = ℕ} 0 (suc m) = cc in absurd (omega arith)),
+        (λ e. absurd (cc)),
         (λ s. absurd (s.1.1 ((seen_rows o laws n l fs rows form m h).0 ((seen_rows o laws n l (f ∷ fs) rows (form_same (frame_of ok) inside) m h).1 s.1.0)))),
       )
       shows (Ok (suc a)) t (ok, (u, (put, is))) m h =
@@ -117,7 +114,7 @@ module _ (o : Ops) (laws : Lawful o) (n l : ℕ) where
               | inr ne ↦ absurd (s.1.1 (seen_by m h (put.shows.alone m h ne (down m h s.1.0))))
             ]),
           )
-      shows (Err e) t heard m h = ((λ z. never (ap is_ok z)), (λ s. absurd (refused_none e t heard s.0)))
+      shows (Err e) t heard m h = ((λ z. absurd (cc)), (λ s. absurd (refused_none e t heard s.0)))
 
     -- fetching
     fetches : 0 < l → (k : ℕ) (b : List ℕ) (r : Result (Unit {0}) RowsFault) (c : List ℕ) → FetchedBy (holding o n l rows) k b r c → 1 ≤ k → k ≤ n → length b ≡ l
@@ -128,7 +125,7 @@ module _ (o : Ops) (laws : Lawful o) (n l : ℕ) where
         let h : k - 1 < n = omega arith in
         let ok = packet_passes table k (length b) (record { long = long; first = first; last = last }) in
         let cause = passed_later (packet_answer table k (length b)) (λ e. (e ≡ NotDetermined) × (Determined o n l rows (k - 1) → ⊥)) e ok refused in
-        (never, (λ d. absurd (cause.1 (by_determined some (k - 1) h d))))
+        ((λ z. absurd (false≢true z)), (λ d. absurd (cause.1 (by_determined some (k - 1) h d))))
 
     gives : 0 < l → (k : ℕ) (b c : List ℕ) → FetchedBy (holding o n l rows) k b (Ok tt) c → (p : Contents o.size) → AgreesAll o n l p fs → (j : ℕ) → j < l → code_at c j ≡ p.symbol (k - 1) j
     gives some k b c (ok, d, is) p agree j hj =

@@ -1,13 +1,10 @@
-use Rattle.std.proofs.Common.{◌≡◌, ℕ, ◌<◌, [], length, get_or, vec_items, sym, ap, ◌∙◌, subst, le_refl, arith, rules}
+use Rattle.std.proofs.Common.{◌≡◌, ℕ, ◌<◌, [], length, get_or, vec_items, sym, ap, ◌∙◌, subst, le_refl, arith}
 use Rattle.std.proofs.lemmas.List.{length-map}
 use Rattle.algebra.specs.Frames.{code_at, Frame}
 use Rattle.elimination.specs.Reduction.{lists}
-use Rattle.elimination.proofs.Storing.{at_list, cleared_none, cleared_more, cleared_all}
+use Rattle.elimination.proofs.Storing.{at_list, cleared_more, cleared_all}
 use Rattle.elimination.proofs.Subtraction.{length_less}
 use Rattle.elimination.proofs.reduction.insert.Goals as goal
-
-pub loop-old-init : goal.loop-old-init
-loop-old-init g c = cleared_none (g.F.Field.ops c.args.field.now) c.args.a c.args.row.now c.args.table.now
 
 pub clear-requires : goal.clear-requires
 clear-requires g c =
@@ -28,16 +25,6 @@ loop-old-preserved g c =
     let short : c.loop-old.old-index < length c.loop-old.table = omega arith in
     cleared_more (g.F.Field.ops c.args.field.now) c.args.a c.args.row.now c.args.table.now c.loop-old.old-index c.loop-old.table c.old-item.result c.clear.new.old
     short c.loop-old.invariant c.clear.ensures
-
-pub bounds-table-a : goal.bounds-table-a
-bounds-table-a g c =
-    let h : c.args.a < length c.args.table.now = subst (λ (n : ℕ). c.args.a < n) (length-map c.args.table.now vec_items) c.requires.within in
-    search rules
-
-pub offset_bounds-table-a : goal.offset_bounds-table-a
-offset_bounds-table-a g c =
-    let h : c.args.a < length c.args.table.now = subst (λ (n : ℕ). c.args.a < n) (length-map c.args.table.now vec_items) c.requires.within in
-    search rules
 
 pub overwrite-requires : goal.overwrite-requires
 overwrite-requires g c =

@@ -1,16 +1,8 @@
-use Rattle.std.proofs.Common.{◌≡◌, ℕ, ◌<◌, length, sym, subst, le_refl, arith}
+use Rattle.std.proofs.Common.{◌≡◌, ℕ, ◌<◌, length, sym, subst, arith}
 use Rattle.std.proofs.lemmas.List.FromFn.{fill_by_all}
 use Rattle.algebra.specs.Frames.{code_at}
 use Rattle.elimination.specs.Reduction.{multiple}
 use Rattle.elimination.proofs.reduction.scale.Goals as goal
-
-pub times-requires : goal.times-requires
-times-requires g c =
-    let o = g.F.Field.ops c.args.field.now in
-    record {
-      a_code = c.requires.factor_code;
-      b_code = subst (λ (x : ℕ). x < o.size) (sym (c.loop-code.invariant.1 c.loop-code.code-index (le_refl _))) (c.requires.row_codes c.loop-code.code-index c.loop-code-test.true);
-    }
 
 pub returns : goal.returns
 unfolding multiple

@@ -1,15 +1,6 @@
-use Rattle.std.proofs.Common.{◌≡◌, ℕ, ◌<◌, length, sym, subst, le_refl, arith}
+use Rattle.std.proofs.Common.{◌≡◌, ℕ, ◌<◌, length, sym, subst, arith}
 use Rattle.elimination.proofs.Subtraction.{less_closed, all_less}
 use Rattle.elimination.proofs.rows.subtract_codes.Goals as goal
-
-pub less-requires : goal.less-requires
-less-requires g c =
-    let o = g.F.Field.ops c.args.field.now in
-    let before : c.loop-i.i < length c.args.target.now = omega arith in
-    record {
-      a_code = subst (λ (x : ℕ). x < o.size) (sym (c.loop-i.invariant.1 c.loop-i.i (le_refl _))) (c.requires.target_codes c.loop-i.i before);
-      b_code = c.times-product.ensures.code;
-    }
 
 pub returns : goal.returns
 returns g c =

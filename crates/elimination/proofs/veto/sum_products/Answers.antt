@@ -1,7 +1,6 @@
-use Rattle.std.proofs.Common.{◌≡◌, length, ap, ◌∙◌, ap₂, arith}
+use Rattle.std.proofs.Common.{length, ◌∙◌, ap₂}
 use Rattle.std.proofs.lemmas.List.{length_push}
-use Rattle.std.proofs.lemmas.Slice.Zip.{zip_turn, zip_end}
-use Rattle.algebra.specs.Frames.{code_at, summed}
+use Rattle.std.proofs.lemmas.Slice.Zip.{zip_turn}
 use Rattle.elimination.proofs.Vetoing.{summed_none, summed_more}
 use Rattle.elimination.proofs.veto.sum_products.Goals as goal
 
@@ -18,12 +17,3 @@ loop-coefficient-preserved g c =
     rw length_push
     (summed_more o a b (length c.loop-coefficient.yielded) c.loop-coefficient.sum c.times-product.result c.plus-sum.result c.loop-coefficient.invariant
     (c.times-product.ensures.value ∙ ap₂ o.product (t.2 0) (t.3 0)) c.plus-sum.ensures.value c.plus-sum.ensures.code)
-
-pub returns : goal.returns
-returns g c =
-    let o = g.F.Field.ops c.args.field.now in
-    let a = c.args.coefficients.now in
-    let b = c.args.column.now in
-    let end = zip_end a b c.loop-coefficient.yielded c.into_iter-coefficient-iterator.result c.loop-coefficient.coefficient-iterator c.next.new.self _ (cc) (cc) c.loop-coefficient.yielded_by c.in-None.is c.next.ensures.steps in
-    let all : length c.loop-coefficient.yielded ≡ length a = omega (arith, end, c.requires.long) in
-    c.loop-coefficient.invariant.is ∙ ap (λ n. summed o n (λ m. o.product (code_at a m) (code_at b m))) all

@@ -1,17 +1,8 @@
-use Rattle.std.proofs.Common.{◌-◌, ◌<◌, length, drop, sym, ap, ◌∙◌, arith}
+use Rattle.std.proofs.Common.{◌-◌, ◌<◌, length, arith}
 use Rattle.elimination.specs.Tables.{held}
 use Rattle.elimination.proofs.Accepting.{packet_passed}
 use Rattle.elimination.proofs.Tabling.{read}
 use Rattle.elimination.proofs.table.Table.fetch.Goals as goal
-
-pub split_at-requires : goal.split_at-requires
-split_at-requires c =
-    let t = c.args.self.now in
-    let k = c.args.packet in
-    let asked = packet_passed (held t) k (length c.args.buffer.now) c.in_ok-check_packet.ensures in
-    let h : k - 1 < t.shape.packets = omega (arith, asked.first, asked.last) in
-    let r = read t h c.index.ensures c.as_slice-row.ensures.value in
-    omega (arith, r.long)
 
 pub copy_from_slice-requires : goal.copy_from_slice-requires
 copy_from_slice-requires c =
@@ -21,15 +12,3 @@ copy_from_slice-requires c =
     let h : k - 1 < t.shape.packets = omega (arith, asked.first, asked.last) in
     let r = read t h c.index.ensures c.as_slice-row.ensures.value in
     omega (arith, r.long, asked.long, c.split_at.ensures.back_len)
-
-pub returns : goal.returns
-returns c =
-    let t = c.args.self.now in
-    let k = c.args.packet in
-    let asked = packet_passed (held t) k (length c.args.buffer.now) c.in_ok-check_packet.ensures in
-    let h : k - 1 < t.shape.packets = omega (arith, asked.first, asked.last) in
-    let r = read t h c.index.ensures c.as_slice-row.ensures.value in (
-      sym c.in_ok-check_packet.ensures,
-      c.if-not-is_bare.ensures,
-      c.copy_from_slice.ensures.after ∙ c.split_at.ensures.back ∙ ap (drop t.shape.packets) r.is,
-    )

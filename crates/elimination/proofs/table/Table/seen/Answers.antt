@@ -1,6 +1,5 @@
-use Rattle.std.proofs.Common.{◌≡◌, ◌<◌, get_or, length, vec_items, refl, ap, ◌∙◌, inl, inr, arith, lit<}
+use Rattle.std.proofs.Common.{◌<◌, get_or, length, vec_items, refl, ap, ◌∙◌, inl, inr, arith, lit<}
 use Rattle.std.proofs.lemmas.List.{get_or_read}
-use Rattle.elimination.specs.Reduction.{lists}
 use Rattle.elimination.specs.Tables.{seen_set}
 use Rattle.elimination.proofs.Sets.{counted_turn}
 use Rattle.elimination.proofs.Tabling.{read}
@@ -32,9 +31,3 @@ loop-m-preserved c =
     counted_turn t m c.loop-m.seen c.if-index-ne0.seen x within c.loop-m.invariant
     (get_or_read (vec_items v) m x wide c.index.ensures 0 ∙ ap (λ row. get_or row m 0) r.is)
     (elim c.if-index-ne0.branch [ then-index-ne0 w ↦ inl (w.if-index-ne0.true, w.seen-is) | else-index-ne0 w ↦ inr (w.if-index-ne0.false, w.seen-is) ])
-
-pub returns : goal.returns
-returns c =
-    let t = c.args.self.now in
-    let all : c.loop-m.m ≡ t.shape.packets = omega (arith, c.loop-m-test.false, c.deref-row-items.ensures.len, t.tall) in
-    c.loop-m.invariant.0 ∙ ap (seen_set (lists (vec_items t.rows))) all
