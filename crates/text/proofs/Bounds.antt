@@ -13,7 +13,6 @@ use Rattle.text.specs.Scripts.{lines_before, too_long, whole_lines}
 use Rattle.text.proofs.Digits.{digit_range}
 
 one_digit : (f : List ℕ) → length f ≤ 1 → are_digits f ≡ true → number_after 0 f ≤ 9
-unfolding are_digits number_after
 one_digit [] h e = lit≤ tt
 one_digit (b ∷ []) h e = let r = digit_range b (and_parts _ _ e).0 in omega arith
 one_digit (b ∷ (c ∷ bs)) h e = absurd (omega arith)

@@ -1,7 +1,6 @@
 pub mod Cutting
 pub mod Digits
 pub mod Numbers
-pub mod Fetching
 pub mod Turns
 pub mod Bounds
 pub mod Writing

@@ -1,58 +1,52 @@
--- Numbers read so far, and what is left of a line. Assumes nothing.
-use Rattle.std.proofs.Common.{◌≡◌, ℕ, ◌+◌, ◌<◌, ◌≤◌, cond, ltb, List, [], ◌∷◌, ◌++◌, length, take, drop, Ok, Err, vec_items, Result, Vec, sym, refl, ap, ◌∙◌}
-use Rattle.std.specs.Result.{result_map_both}
-use Rattle.std.specs.declared.alloc.Global.{Global}
-use Rattle.std.proofs.lemmas.Bool.{cond-true, cond-false, lt-ltb, le-ltb}
+-- Numbers read so far, and the fields that are left of a line. Assumes nothing.
+use Rattle.std.proofs.Common.{◌≡◌, ℕ, ◌+◌, ◌<◌, List, [], ◌∷◌, ◌++◌, length, get_or, drop, Some, None, Ok, Err, Option, Result, sym, refl, ap, ◌∙◌, append_assoc, append-nil, arith}
+use Rattle.std.specs.Iterator.{Yields}
+use Rattle.std.proofs.lemmas.Iterator.{YieldsList}
+use Rattle.std.proofs.lemmas.Iterator.Consumers.{YieldsList-turn, YieldsList-end}
+use Rattle.std.proofs.lemmas.List.{drop_more, drop_all}
 use Rattle.text.specs.declared.fault.LineFault.{LineFault}
-use Rattle.text.specs.Cuts.{fields_of, FieldEnd}
 use Rattle.text.specs.Lines.{field_answer, in_front, first_then, numbers_from}
 
--- numbers in front of what the rest of a line gives
-unfoldable pub after : List ℕ → Result (List ℕ) LineFault → Result (List ℕ) LineFault
-after [] r = r
-after (n ∷ ns) r = in_front n (after ns r)
+-- a `for` that has taken the items xs: what is left of them all
+module _ {S A B : Type 0} {steps : S → Option A → S → Type 0} {v : A → B} {s : S} {all : List B} (chain : YieldsList steps v s all) (xs : List A) (t : S) (y : Yields steps s xs t) (r : Option A) (u : S) where
+  pub left_more : (x : A) → r ≡ Some x → steps t r u → drop (length xs) all ≡ v x ∷ drop (length xs + 1) all
+  left_more x is step =
+      let here = YieldsList-turn chain xs t y r u x is step in
+      drop_more all (length xs) (v x) here.0 ∙ ap (λ z. z ∷ drop (length xs + 1) all) (sym here.1)
 
-after_push : (ns : List ℕ) (n : ℕ) (r : Result (List ℕ) LineFault) → after (ns ++ (n ∷ [])) r ≡ after ns (in_front n r)
-unfolding after
-after_push [] n r = refl
-after_push (m ∷ ns) n r = ap (in_front m) (after_push ns n r)
+  pub left_none : r ≡ None → steps t r u → drop (length xs) all ≡ []
+  left_none is step = drop_all (length xs) all (omega (arith, (YieldsList-end chain xs t y r u is step).1))
 
-after_end : (ns : List ℕ) → after ns (Ok []) ≡ Ok ns
-unfolding after
-after_end [] = refl
-after_end (n ∷ ns) = ap (in_front n) (after_end ns)
+-- numbers in front of what the fields that are left give
+abbrev pub after : List ℕ → Result (List ℕ) LineFault → Result (List ℕ) LineFault
+after ns (Ok ms) = Ok (ns ++ ms)
+after ns (Err e) = Err e
 
-after_fault : (ns : List ℕ) (e : LineFault) → after ns (Err e) ≡ Err e
-unfolding after
-after_fault [] e = refl
-after_fault (n ∷ ns) e = ap (in_front n) (after_fault ns e)
+after_push : (ns : List ℕ) (n : ℕ) (r : Result (List ℕ) LineFault) → after ns (in_front n r) ≡ after (ns ++ (n ∷ [])) r
+after_push ns n (Ok ms) = ap Ok (sym (append_assoc ns (n ∷ []) ms))
+after_push ns n (Err e) = refl
 
--- a turn: the numbers ns stand before rest, whose first field goes up to this end and has number k
-module _ (m : ℕ) (line rest : List ℕ) (ns : List ℕ) (k end : ℕ) (here : FieldEnd rest end)
-    (inv : numbers_from m 1 (fields_of line) ≡ after ns (numbers_from m k (fields_of rest))) where
-  abbrev others : List (List ℕ)
-  others = cond (ltb end (length rest)) (fields_of (drop (end + 1) rest)) []
+-- of these fields, some were read as the numbers ns, and the others, counted from k on, are left
+abbrev pub Sofar : ℕ → List (List ℕ) → List ℕ → ℕ → List (List ℕ) → Type 0
+Sofar m fields ns k left = numbers_from m 1 fields ≡ after ns (numbers_from m k left)
 
-  first : numbers_from m k (fields_of rest) ≡ first_then (field_answer m k (take end rest)) (numbers_from m (k + 1) others)
+pub none_read : (m : ℕ) (fields : List (List ℕ)) → Sofar m fields [] 1 fields
+none_read m fields = in_front_of_none (numbers_from m 1 fields)
+  where
+    in_front_of_none : (r : Result (List ℕ) LineFault) → r ≡ after [] r
+    in_front_of_none (Ok ms) = refl
+    in_front_of_none (Err e) = refl
+
+module _ (m : ℕ) (fields : List (List ℕ)) (ns : List ℕ) (k : ℕ) where
+  pub all_read : Sofar m fields ns k [] → numbers_from m 1 fields ≡ Ok ns
   unfolding numbers_from
-  first = ap (numbers_from m k) here.fields
+  all_read s = s ∙ ap Ok (append-nil ns)
 
-  pub at_fault : (e : LineFault) → field_answer m k (take end rest) ≡ Err e → numbers_from m 1 (fields_of line) ≡ Err e
-  at_fault e h = inv ∙ ap (after ns) (first ∙ ap (λ r. first_then r (numbers_from m (k + 1) others)) h) ∙ after_fault ns e
+  module _ (f : List ℕ) (left : List (List ℕ)) (s : Sofar m fields ns k (f ∷ left)) where
+    pub field_refused : (e : LineFault) → field_answer m k f ≡ Err e → numbers_from m 1 fields ≡ Err e
+    unfolding numbers_from
+    field_refused e h = s ∙ ap (λ r. after ns (first_then r (numbers_from m (k + 1) left))) h
 
-  one_more : (n : ℕ) → field_answer m k (take end rest) ≡ Ok n → numbers_from m 1 (fields_of line) ≡ after (ns ++ (n ∷ [])) (numbers_from m (k + 1) others)
-  one_more n h =
-      inv ∙ ap (after ns) (first ∙ ap (λ r. first_then r (numbers_from m (k + 1) others)) h) ∙ sym (after_push ns n (numbers_from m (k + 1) others))
-
-  pub at_comma : (n : ℕ) → field_answer m k (take end rest) ≡ Ok n → end < length rest
-      → numbers_from m 1 (fields_of line) ≡ after (ns ++ (n ∷ [])) (numbers_from m (k + 1) (fields_of (drop (end + 1) rest)))
-  at_comma n h l = one_more n h ∙ ap (λ fs. after (ns ++ (n ∷ [])) (numbers_from m (k + 1) fs)) (cond-true (ltb end (length rest)) _ _ (lt-ltb end (length rest) l))
-
-  pub at_end : (n : ℕ) → field_answer m k (take end rest) ≡ Ok n → length rest ≤ end → numbers_from m 1 (fields_of line) ≡ Ok (ns ++ (n ∷ []))
-  unfolding numbers_from
-  at_end n h l =
-      one_more n h ∙ ap (λ fs. after (ns ++ (n ∷ [])) (numbers_from m (k + 1) fs)) (cond-false (ltb end (length rest)) _ _ (le-ltb end (length rest) l)) ∙ after_end (ns ++ (n ∷ []))
-
--- what a line was read as, where it is held in a vector
-pub told : (x y : Result (Vec ℕ Global) LineFault) (a : Result (List ℕ) LineFault) → result_map_both vec_items (λ e. e) x ≡ a → x ≡ y → a ≡ result_map_both vec_items (λ e. e) y
-told x y a e is = sym e ∙ ap (result_map_both vec_items (λ e. e)) is
+    pub field_read : (n : ℕ) → field_answer m k f ≡ Ok n → Sofar m fields (ns ++ (n ∷ [])) (k + 1) left
+    unfolding numbers_from
+    field_read n h = s ∙ ap (λ r. after ns (first_then r (numbers_from m (k + 1) left))) h ∙ after_push ns n (numbers_from m (k + 1) left)

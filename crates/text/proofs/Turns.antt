@@ -1,42 +1,51 @@
--- Lines read so far, and what is left of a text. Assumes nothing.
-use Rattle.std.proofs.Common.{◌≡◌, ℕ, ◌+◌, List, [], ◌∷◌, ◌++◌, length, Some, None, Ok, Err, Option, Result, sym, refl, ap, ◌∙◌, append_assoc, append-nil}
+-- Lines read so far, and the lines that are left of a text. Assumes nothing.
+use Rattle.std.proofs.Common.{◌≡◌, ℕ, ◌+◌, List, [], ◌∷◌, ◌++◌, length, Some, None, Ok, Err, Option, Result, sym, ap, ◌∙◌, subst, refl, Vec, append_assoc, append-nil, arith}
+use Rattle.std.specs.Result.{MatchResult, IsErrAnd}
+use Rattle.std.specs.declared.alloc.Global.{Global}
 use Rattle.text.specs.declared.fault.LineFault.{LineFault}
 use Rattle.text.specs.declared.fault.ScriptFault.{ScriptFault}
 use Rattle.text.specs.declared.fault.ScriptFault.TheVariants.{Line}
-use Rattle.text.specs.Cuts.{lines_of}
-use Rattle.text.specs.Lines.{line_answer}
-use Rattle.text.specs.Scripts.{lines_before, first_fault}
+use Rattle.text.specs.declared.fault.Unread.{Unread}
+use Rattle.text.specs.declared.fault.Unread.TheVariants.{Faulty, NoMemory}
+use Rattle.text.specs.Faults.{at_line}
+use Rattle.text.specs.Lines.{line_answer, ReadAs}
+use Rattle.text.specs.Tables.{lists}
+use Rattle.text.specs.Scripts.{lines_before, first_fault, ReadTo}
 
--- these lines of a text were read, and what is left has lines of this width, counted from n on
-pub record Sofar (text : List ℕ) (done : List (List ℕ)) (w : Option ℕ) (n : ℕ) (rest : List ℕ) : Type 0 where
-  pub lines : lines_before None (lines_of text) ≡ done ++ lines_before w (lines_of rest)
-  pub fault : first_fault None 1 (lines_of text) ≡ first_fault w n (lines_of rest)
+-- what `map_err` told of a line that was not read
+pub mapped : {X : Type 0} (Q : Unread → ScriptFault → Type 0) (r : Result X Unread) (s : Result X ScriptFault) (e : ScriptFault) → MatchResult r (λ x. s ≡ Ok x) (λ u. IsErrAnd s (Q u)) → s ≡ Err e
+    → (u : Unread) × (r ≡ Err u) × Q u e
+mapped Q (Ok x) s e h is = let z : ◌≡◌ {A = ℕ} 0 1 = cc in absurd (omega arith)
+mapped Q (Err u) s e h is = (u, refl, subst (λ t. IsErrAnd t (Q u)) is h)
 
-pub nothing_read : (text : List ℕ) → Sofar text [] None 1 text
-nothing_read text = record { lines = refl; fault = refl }
+-- of all lines these were read, and what is left has lines of this width, counted from n on
+pub record Sofar (all done : List (List ℕ)) (w : Option ℕ) (n : ℕ) (left : List (List ℕ)) : Type 0 where
+  pub lines : lines_before None all ≡ done ++ lines_before w left
+  pub fault : first_fault None 1 all ≡ first_fault w n left
 
-pub all_read : (text : List ℕ) (done : List (List ℕ)) (w : Option ℕ) (n : ℕ) → Sofar text done w n []
-    → (done ≡ lines_before None (lines_of text)) × (None ≡ first_fault None 1 (lines_of text))
-unfolding lines_of lines_before first_fault
-all_read text done w n s = (sym (s.lines ∙ append-nil done), sym s.fault)
+pub all_read : (all done : List (List ℕ)) (w : Option ℕ) (n : ℕ) → Sofar all done w n [] → (first_fault None 1 all ≡ None) × (done ≡ lines_before None all)
+unfolding lines_before first_fault
+all_read all done w n s = (s.fault, sym (s.lines ∙ append-nil done))
 
-module _ (text : List ℕ) (done : List (List ℕ)) (w : Option ℕ) (n : ℕ) (rest line after : List ℕ) (s : Sofar text done w n rest) (cut : lines_of rest ≡ line ∷ lines_of after) where
-  pub line_read : (ns : List ℕ) → line_answer 1 w line ≡ Ok ns → Sofar text (done ++ (ns ∷ [])) (Some (length ns)) (n + 1) after
+module _ (all done : List (List ℕ)) (w : Option ℕ) (n : ℕ) (line : List ℕ) (left : List (List ℕ)) (s : Sofar all done w n (line ∷ left)) where
+  -- what an answer to the line makes of it and the lines that are left
+  abbrev lines_by : Result (List ℕ) LineFault → List (List ℕ)
+  lines_by r = elim r [ Ok ns ↦ ns ∷ lines_before (Some (length ns)) left | Err e ↦ [] ]
+
+  abbrev fault_by : Result (List ℕ) LineFault → Option ScriptFault
+  fault_by r = elim r [ Ok ns ↦ first_fault (Some (length ns)) (n + 1) left | Err e ↦ Some (Line n e) ]
+
+  pub line_read : (ns : List ℕ) → line_answer 1 w line ≡ Ok ns → Sofar all (done ++ (ns ∷ [])) (Some (length ns)) (n + 1) left
   unfolding lines_before first_fault
-  line_read ns h =
-      let step : Result (List ℕ) LineFault → List (List ℕ) = λ r. elim r [ Ok ms ↦ ms ∷ lines_before (Some (length ms)) (lines_of after) | Err e ↦ [] ] in
-      let fault : Result (List ℕ) LineFault → Option ScriptFault = λ r. elim r [ Ok ms ↦ first_fault (Some (length ms)) (n + 1) (lines_of after) | Err e ↦ Some (Line n e) ] in
-      record {
-        lines = s.lines ∙ ap (λ ls. done ++ lines_before w ls) cut ∙ ap (λ r. done ++ step r) h ∙ sym (append_assoc done (ns ∷ []) (lines_before (Some (length ns)) (lines_of after)));
-        fault = s.fault ∙ ap (first_fault w n) cut ∙ ap fault h;
-      }
+  line_read ns h = record {
+    lines = s.lines ∙ ap (λ r. done ++ lines_by r) h ∙ sym (append_assoc done (ns ∷ []) (lines_before (Some (length ns)) left));
+    fault = s.fault ∙ ap fault_by h;
+  }
 
-  pub line_refused : (e : LineFault) → line_answer 1 w line ≡ Err e
-      → (done ≡ lines_before None (lines_of text)) × (Some (Line n e) ≡ first_fault None 1 (lines_of text))
+  line_refused : (e : LineFault) → line_answer 1 w line ≡ Err e → (first_fault None 1 all ≡ Some (Line n e)) × (done ≡ lines_before None all)
   unfolding lines_before first_fault
-  line_refused e h =
-      let step : Result (List ℕ) LineFault → List (List ℕ) = λ r. elim r [ Ok ms ↦ ms ∷ lines_before (Some (length ms)) (lines_of after) | Err e ↦ [] ] in
-      let fault : Result (List ℕ) LineFault → Option ScriptFault = λ r. elim r [ Ok ms ↦ first_fault (Some (length ms)) (n + 1) (lines_of after) | Err e ↦ Some (Line n e) ] in (
-        sym (s.lines ∙ ap (λ ls. done ++ lines_before w ls) cut ∙ ap (λ r. done ++ step r) h ∙ append-nil done),
-        sym (s.fault ∙ ap (first_fault w n) cut ∙ ap fault h),
-      )
+  line_refused e h = (s.fault ∙ ap fault_by h, sym (s.lines ∙ ap (λ r. done ++ lines_by r) h ∙ append-nil done))
+
+  pub line_unread : (u : Unread) → ReadAs (line_answer 1 w line) (Err u) → (read : List (Vec ℕ Global)) → done ≡ lists read → ReadTo (first_fault None 1 all) (lines_before None all) read (Err (at_line n u))
+  line_unread (Faulty e) h read same = let both = line_refused e h in (both.0, sym same ∙ both.1)
+  line_unread (NoMemory _) h read same = tt

@@ -1,58 +1,27 @@
 -- Nothing else is read as lines than those lines written out. Assumes nothing.
 use Rattle.std.proofs.Common.{◌≡◌, ℕ, ◌+◌, ◌-◌, ◌*◌, ◌<◌, ◌≤◌, Bool, true, false, cond, ◌&&◌, eqb, ltb, leb, ◌⊎◌, List, [], ◌∷◌, ◌++◌, map, length, get_or, Some, None, Ok, Err, Option, Result, sym, refl, ap, ◌∙◌, subst, ap₂, inl, inr, ⊎_elim, arith}
 use Rattle.std.specs.Char.{is_ascii_digit}
+use Rattle.std.specs.List.{onto_first, join_with_byte}
+use Rattle.std.proofs.lemmas.List.Splits.{join_with_byte-slice_split}
 use Rattle.std.proofs.lemmas.Bool.{cases_eq, cases_Bool, and_parts, cond-true, cond-false, cond_both, eq-eqb, ne_eqb, eqb-true, leb-true, ltb-true}
 use Rattle.faults.proofs.Passed.{passed}
 use Rattle.text.specs.declared.fault.LineFault.{LineFault}
 use Rattle.text.specs.declared.fault.LineFault.TheVariants.{NoDigit, NoEnd}
 use Rattle.text.specs.declared.fault.ScriptFault.{ScriptFault}
 use Rattle.text.specs.declared.fault.ScriptFault.TheVariants.{Line, TooLong}
-use Rattle.text.specs.Cuts.{onto, lines_of, fields_of}
+use Rattle.text.specs.Cuts.{lines_of, fields_of}
 use Rattle.text.specs.Lines.{are_digits, number_after, begins, field_answer, numbers_from, line_answer}
 use Rattle.text.specs.Scripts.{lines_before, first_fault, too_long, fault_of, whole_lines, unless}
 use Rattle.text.specs.Written.{line_text, script_line, script_text, open_script_text, ScriptsWritten}
 use Rattle.text.proofs.Digits.{digit_range}
 use Rattle.text.proofs.Bounds.{parts, read_whole}
 
--- fields put together again, with commas between them
-join : List (List ℕ) → List ℕ
-join [] = []
-join (p ∷ []) = p
-join (p ∷ (q ∷ ps)) = p ++ (44 ∷ join (q ∷ ps))
-
-join_onto : (b : ℕ) (ps : List (List ℕ)) → join (onto b ps) ≡ b ∷ join ps
-unfolding join
-join_onto b [] = refl
-join_onto b (p ∷ []) = refl
-join_onto b (p ∷ (q ∷ ps)) = refl
-
-join_empty : (ps : List (List ℕ)) → 0 < length ps → join ([] ∷ ps) ≡ 44 ∷ join ps
-unfolding join
-join_empty [] h = absurd (omega arith)
-join_empty (q ∷ ps) h = refl
-
-onto_some : (b : ℕ) (ps : List (List ℕ)) → 0 < length (onto b ps)
+onto_some : (b : ℕ) (ps : List (List ℕ)) → 0 < length (onto_first b ps)
 onto_some b [] = omega arith
 onto_some b (p ∷ ps) = omega arith
 
-fields_some : (l : List ℕ) → 0 < length (fields_of l)
-unfolding fields_of
-fields_some [] = omega arith
-fields_some (b ∷ bs) =
-    cond_both (eqb b 44) ([] ∷ fields_of bs) (onto b (fields_of bs)) (λ (ps : List (List ℕ)). 0 < length ps) (λ _. omega arith) (λ _. onto_some b (fields_of bs))
-
-fields_join : (l : List ℕ) → join (fields_of l) ≡ l
-unfolding fields_of join
-fields_join [] = refl
-fields_join (b ∷ bs) =
-    elim (cases_eq b 44) [
-      | inl e ↦ ap join (cond-true (eqb b 44) ([] ∷ fields_of bs) (onto b (fields_of bs)) (eq-eqb b 44 e)) ∙ join_empty (fields_of bs) (fields_some bs) ∙ ap₂ (λ (x : ℕ) (t : List ℕ). x ∷ t) (sym e) (fields_join bs)
-      | inr ne ↦ ap join (cond-false (eqb b 44) ([] ∷ fields_of bs) (onto b (fields_of bs)) (ne_eqb b 44 ne)) ∙ join_onto b (fields_of bs) ∙ ap (λ t. b ∷ t) (fields_join bs)
-    ]
-
 -- a digit that was read is the byte of that digit
 one_byte : (f : List ℕ) → 0 < length f → length f ≤ 1 → are_digits f ≡ true → f ≡ (48 + number_after 0 f) ∷ []
-unfolding are_digits number_after
 one_byte [] s h e = absurd (omega arith)
 one_byte (b ∷ []) s h e = let r = digit_range b (and_parts (is_ascii_digit b) true e).0 in let same : b ≡ 48 + (0 * 10 + (b - 48)) = omega arith in ap (λ x. x ∷ []) same
 one_byte (b ∷ (c ∷ bs)) s h e = absurd (omega arith)
@@ -77,15 +46,16 @@ numbers_written k (f ∷ fs) ns e =
     let p = parts (field_answer 1 k f) (numbers_from 1 (k + 1) fs) ns e in
     ap₂ (λ (x : List ℕ) (xs : List (List ℕ)). x ∷ xs) (digit_written k p.0 f p.2) (numbers_written (k + 1) fs p.1 p.3) ∙ sym (ap bytes p.4)
 
-join_bytes : (ns : List ℕ) → join (bytes ns) ≡ script_line ns
-unfolding join bytes line_text
+-- with commas between them they are the line
+join_bytes : (ns : List ℕ) → join_with_byte 44 (bytes ns) ≡ script_line ns
+unfolding bytes line_text
 join_bytes [] = refl
 join_bytes (n ∷ []) = refl
 join_bytes (n ∷ (m ∷ ns)) = ap (λ t. (48 + n) ∷ (44 ∷ t)) (join_bytes (m ∷ ns))
 
 line_written : (w : Option ℕ) (l ns : List ℕ) → line_answer 1 w l ≡ Ok ns → l ≡ script_line ns
 line_written w l ns h =
-    sym (fields_join l) ∙ ap join (numbers_written 1 (fields_of l) ns (read_whole w (numbers_from 1 1 (fields_of l)) ns h)) ∙ join_bytes ns
+    sym (join_with_byte-slice_split 44 l) ∙ ap (join_with_byte 44) (numbers_written 1 (fields_of l) ns (read_whole w (numbers_from 1 1 (fields_of l)) ns h)) ∙ join_bytes ns
 
 lines_written : (w : Option ℕ) (n : ℕ) (raw : List (List ℕ)) → first_fault w n raw ≡ None → raw ≡ map script_line (lines_before w raw)
 unfolding first_fault lines_before
@@ -112,14 +82,14 @@ lines_some : (b : ℕ) (bs : List ℕ) → 0 < length (lines_of (b ∷ bs))
 unfolding lines_of
 lines_some b [] = omega arith
 lines_some b (c ∷ bs) =
-    cond_both (eqb b 13 && eqb c 10) ([] ∷ lines_of bs) (onto b (lines_of (c ∷ bs))) (λ (ls : List (List ℕ)). 0 < length ls) (λ _. omega arith) (λ _. onto_some b (lines_of (c ∷ bs)))
+    cond_both (eqb b 13 && eqb c 10) ([] ∷ lines_of bs) (onto_first b (lines_of (c ∷ bs))) (λ (ls : List (List ℕ)). 0 < length ls) (λ _. omega arith) (λ _. onto_some b (lines_of (c ∷ bs)))
 
-closed_onto : (b : ℕ) (ls : List (List ℕ)) → 0 < length ls → closed (onto b ls) ≡ b ∷ closed ls
+closed_onto : (b : ℕ) (ls : List (List ℕ)) → 0 < length ls → closed (onto_first b ls) ≡ b ∷ closed ls
 unfolding closed
 closed_onto b [] h = absurd (omega arith)
 closed_onto b (l ∷ ls) h = refl
 
-opened_onto : (b : ℕ) (ls : List (List ℕ)) → opened (onto b ls) ≡ b ∷ opened ls
+opened_onto : (b : ℕ) (ls : List (List ℕ)) → opened (onto_first b ls) ≡ b ∷ opened ls
 unfolding opened
 opened_onto b [] = refl
 opened_onto b (l ∷ []) = refl
@@ -135,7 +105,7 @@ empty_first bs ls (inl e) = inl (ap (λ t. 13 ∷ (10 ∷ t)) e)
 empty_first bs [] (inr e) = inl (ap (λ t. 13 ∷ (10 ∷ t)) e)
 empty_first bs (l ∷ ls) (inr e) = inr (ap (λ t. 13 ∷ (10 ∷ t)) e)
 
-byte_first : (b : ℕ) (bs : List ℕ) (ls : List (List ℕ)) → 0 < length ls → Together bs ls → Together (b ∷ bs) (onto b ls)
+byte_first : (b : ℕ) (bs : List ℕ) (ls : List (List ℕ)) → 0 < length ls → Together bs ls → Together (b ∷ bs) (onto_first b ls)
 byte_first b bs ls h (inl e) = inl (ap (λ t. b ∷ t) e ∙ sym (closed_onto b ls h))
 byte_first b bs ls h (inr e) = inr (ap (λ t. b ∷ t) e ∙ sym (opened_onto b ls))
 
@@ -148,10 +118,10 @@ together (b ∷ (c ∷ bs)) =
       | inl e ↦
           let p = and_parts (eqb b 13) (eqb c 10) e in
           let front : b ∷ (c ∷ bs) ≡ 13 ∷ (10 ∷ bs) = ap₂ (λ (x y : ℕ). x ∷ (y ∷ bs)) (eqb-true b 13 p.0) (eqb-true c 10 p.1) in
-          subst (Together (b ∷ (c ∷ bs))) (sym (cond-true (eqb b 13 && eqb c 10) ([] ∷ lines_of bs) (onto b (lines_of (c ∷ bs))) e))
+          subst (Together (b ∷ (c ∷ bs))) (sym (cond-true (eqb b 13 && eqb c 10) ([] ∷ lines_of bs) (onto_first b (lines_of (c ∷ bs))) e))
           (subst (λ (t : List ℕ). Together t ([] ∷ lines_of bs)) (sym front) (empty_first bs (lines_of bs) (together bs)))
       | inr e ↦
-          subst (Together (b ∷ (c ∷ bs))) (sym (cond-false (eqb b 13 && eqb c 10) ([] ∷ lines_of bs) (onto b (lines_of (c ∷ bs))) e))
+          subst (Together (b ∷ (c ∷ bs))) (sym (cond-false (eqb b 13 && eqb c 10) ([] ∷ lines_of bs) (onto_first b (lines_of (c ∷ bs))) e))
           (byte_first b (c ∷ bs) (lines_of (c ∷ bs)) (lines_some c bs) (together (c ∷ bs)))
     ]
 

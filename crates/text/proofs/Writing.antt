@@ -1,17 +1,17 @@
 -- What was written out is read back. Assumes nothing.
 use Rattle.std.proofs.Common.{◌≡◌, ℕ, zero, suc, ◌+◌, ◌-◌, ◌*◌, ◌<◌, ◌≤◌, true, false, ◌&&◌, eqb, ltb, leb, List, [], ◌∷◌, ◌++◌, map, length, get_or, Some, None, Ok, Err, Option, Result, sym, refl, ap, ◌∙◌, subst, ap₂, arith}
 use Rattle.std.specs.Char.{is_ascii_digit}
+use Rattle.std.specs.List.{onto_first}
 use Rattle.std.proofs.lemmas.List.{length-map, length-append, append-nil}
 use Rattle.std.proofs.lemmas.Bool.{cond-true, cond-false, and_from, and_left, and_right, le-leb, le-ltb, lt-ltb, ne_eqb, eq-eqb, or_from}
 use Rattle.text.specs.declared.fault.LineFault.{LineFault}
 use Rattle.text.specs.declared.fault.LineFault.TheVariants.{NoDigit, NoEnd, WrongCount}
 use Rattle.text.specs.declared.fault.ScriptFault.{ScriptFault}
 use Rattle.text.specs.declared.fault.ScriptFault.TheVariants.{Line}
-use Rattle.text.specs.Cuts.{onto, lines_of, fields_of, first_of}
+use Rattle.text.specs.Cuts.{lines_of, fields_of, first_of}
 use Rattle.text.specs.Lines.{are_digits, number_after, begins, field_answer, first_then, numbers_from, fits, counted, line_answer}
 use Rattle.text.specs.Scripts.{lines_before, first_fault, too_long, unless, script_answer}
 use Rattle.text.specs.Written.{digits_text, line_text, script_line, script_text, open_script_text, value_after, Digits, ScriptsReadBack, SettingsReadBack}
-use Rattle.text.proofs.Cutting.{goes_on}
 
 -- all of some digits are at most 9
 abbrev Each : List ℕ → Type 0
@@ -21,12 +21,11 @@ is_digit : (d : ℕ) → d ≤ 9 → is_ascii_digit (48 + d) ≡ true
 is_digit d h = and_from (leb 48 (48 + d)) (leb (48 + d) 57) (le-leb 48 (48 + d) (omega arith)) (le-leb (48 + d) 57 (omega arith))
 
 text_digits : (ds : List ℕ) → Each ds → are_digits (digits_text ds) ≡ true
-unfolding are_digits
 text_digits [] e = refl
 text_digits (d ∷ ds) e = and_from (is_ascii_digit (48 + d)) (are_digits (digits_text ds)) (is_digit d (e 0)) (text_digits ds (λ k. e (suc k)))
 
 text_value : (a : ℕ) (ds : List ℕ) → number_after a (digits_text ds) ≡ value_after a ds
-unfolding number_after value_after
+unfolding value_after
 text_value a [] = refl
 text_value a (d ∷ ds) = let same : a * 10 + (48 + d - 48) ≡ a * 10 + d = omega arith in ap (λ n. number_after n (digits_text ds)) same ∙ text_value (a * 10 + d) ds
 
@@ -44,19 +43,17 @@ field_back m k ds w =
 
 -- digits have no comma among them
 comma_after : (ds : List ℕ) → Each ds → (rest : List ℕ) → fields_of (digits_text ds ++ (44 ∷ rest)) ≡ digits_text ds ∷ fields_of rest
-unfolding fields_of
 comma_after [] e rest = refl
 comma_after (d ∷ ds) e rest =
     let few = e 0 in
-    cond-false (eqb (48 + d) 44) ([] ∷ fields_of (digits_text ds ++ (44 ∷ rest))) (onto (48 + d) (fields_of (digits_text ds ++ (44 ∷ rest)))) (ne_eqb (48 + d) 44 (λ x. omega arith))
-    ∙ ap (onto (48 + d)) (comma_after ds (λ k. e (suc k)) rest)
+    cond-false (eqb (48 + d) 44) ([] ∷ fields_of (digits_text ds ++ (44 ∷ rest))) (onto_first (48 + d) (fields_of (digits_text ds ++ (44 ∷ rest)))) (ne_eqb (48 + d) 44 (λ x. omega arith))
+    ∙ ap (onto_first (48 + d)) (comma_after ds (λ k. e (suc k)) rest)
 
 no_comma : (ds : List ℕ) → Each ds → fields_of (digits_text ds) ≡ digits_text ds ∷ []
-unfolding fields_of
 no_comma [] e = refl
 no_comma (d ∷ ds) e =
     let few = e 0 in
-    cond-false (eqb (48 + d) 44) ([] ∷ fields_of (digits_text ds)) (onto (48 + d) (fields_of (digits_text ds))) (ne_eqb (48 + d) 44 (λ x. omega arith)) ∙ ap (onto (48 + d)) (no_comma ds (λ k. e (suc k)))
+    cond-false (eqb (48 + d) 44) ([] ∷ fields_of (digits_text ds)) (onto_first (48 + d) (fields_of (digits_text ds))) (ne_eqb (48 + d) 44 (λ x. omega arith)) ∙ ap (onto_first (48 + d)) (no_comma ds (λ k. e (suc k)))
 
 -- every field of a line is one to m digits
 abbrev Fields : ℕ → List (List ℕ) → Type 0
@@ -100,20 +97,22 @@ line_plain m (f ∷ (g ∷ fs)) w = digits_plain f (w 0 (omega arith)).each (44 
     after p zero x = omega arith
     after p (suc i) x = p i x
 
-no_end_at : (b : ℕ) (bs : List ℕ) → (b ≡ 13 → ⊥) → (ltb 0 (length bs) && (eqb b 13 && eqb (get_or bs 0 0) 10)) ≡ false
-no_end_at b bs ne = and_right (ltb 0 (length bs)) (eqb b 13 && eqb (get_or bs 0 0) 10) (and_left (eqb b 13) (eqb (get_or bs 0 0) 10) (ne_eqb b 13 ne))
+-- a byte that is no CR ends no line
+goes_on : (b : ℕ) (bs : List ℕ) → (b ≡ 13 → ⊥) → lines_of (b ∷ bs) ≡ onto_first b (lines_of bs)
+unfolding lines_of
+goes_on b [] ne = refl
+goes_on b (c ∷ bs) ne = cond-false (eqb b 13 && eqb c 10) ([] ∷ lines_of bs) (onto_first b (lines_of (c ∷ bs))) (and_left (eqb b 13) (eqb c 10) (ne_eqb b 13 ne))
 
 end_after : (p : List ℕ) → Plain p → (rest : List ℕ) → lines_of (p ++ (13 ∷ (10 ∷ rest))) ≡ p ∷ lines_of rest
 unfolding lines_of
 end_after [] h rest = refl
-end_after (b ∷ p) h rest =
-    goes_on b (p ++ (13 ∷ (10 ∷ rest))) (no_end_at b (p ++ (13 ∷ (10 ∷ rest))) (h 0)) ∙ ap (onto b) (end_after p (λ i. h (suc i)) rest)
+end_after (b ∷ p) h rest = goes_on b (p ++ (13 ∷ (10 ∷ rest))) (h 0) ∙ ap (onto_first b) (end_after p (λ i. h (suc i)) rest)
 
 no_end : (p : List ℕ) → 1 ≤ length p → Plain p → lines_of p ≡ p ∷ []
 unfolding lines_of
 no_end [] s h = absurd (omega arith)
 no_end (b ∷ []) s h = refl
-no_end (b ∷ (c ∷ p)) s h = goes_on b (c ∷ p) (no_end_at b (c ∷ p) (h 0)) ∙ ap (onto b) (no_end (c ∷ p) (omega arith) (λ i. h (suc i)))
+no_end (b ∷ (c ∷ p)) s h = goes_on b (c ∷ p) (h 0) ∙ ap (onto_first b) (no_end (c ∷ p) (omega arith) (λ i. h (suc i)))
 
 line_some : (m : ℕ) (fs : List (List ℕ)) → 1 ≤ length fs → Fields m fs → 1 ≤ length (line_text fs)
 unfolding line_text

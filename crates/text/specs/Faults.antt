@@ -10,6 +10,8 @@ use Rattle.text.specs.declared.fault.ScriptFault.{ScriptFault}
 use Rattle.text.specs.declared.fault.ScriptFault.TheVariants as script
 use Rattle.text.specs.declared.fault.SettingsFault.{SettingsFault}
 use Rattle.text.specs.declared.fault.SettingsFault.TheVariants as settings
+use Rattle.text.specs.declared.fault.Unread.{Unread}
+use Rattle.text.specs.declared.fault.Unread.TheVariants.{Faulty, NoMemory}
 
 -- 21: no digit where a field begins; 22: a wrong number of fields, told with that number; 23: neither comma nor line end after a field
 abbrev pub line_refusal : Layer → ℕ → LineFault → Refusal
@@ -27,3 +29,12 @@ script_refusal script.NoMemory = plain Script 0
 abbrev pub settings_refusal : SettingsFault → Refusal
 settings_refusal (settings.Line e) = line_refusal Settings 1 e
 settings_refusal settings.NoMemory = plain Settings 0
+
+-- the fault of a script whose line of number n was not read, and of settings whose line was not
+abbrev pub at_line : ℕ → Unread → ScriptFault
+at_line n (Faulty e) = script.Line n e
+at_line n (NoMemory _) = script.NoMemory
+
+abbrev pub alone : Unread → SettingsFault
+alone (Faulty e) = settings.Line e
+alone (NoMemory _) = settings.NoMemory

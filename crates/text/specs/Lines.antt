@@ -1,19 +1,21 @@
 -- The numbers of a line. Assumes nothing.
-use Rattle.std.specs.Prelude.{ℕ, ◌+◌, ◌-◌, ◌*◌, Bool, true, cond, ◌&&◌, List, [], ◌∷◌, length, Some, None, Ok, Err, Option, Result, ◌==◌, nat_le, nat_lt, slice_index}
+use Rattle.std.specs.Prelude.{◌≡◌, ℕ, ◌+◌, ◌-◌, ◌*◌, Bool, cond, ◌&&◌, List, [], ◌∷◌, length, Some, None, Ok, Err, Option, Result, ◌==◌, nat_le, nat_lt, slice_index, fold, vec_items, Vec}
 use Rattle.std.specs.Char.{is_ascii_digit}
+use Rattle.std.specs.List.{list_all}
+use Rattle.std.specs.declared.alloc.Global.{Global}
 use Rattle.text.specs.declared.fault.LineFault.{LineFault}
 use Rattle.text.specs.declared.fault.LineFault.TheVariants.{NoDigit, WrongCount, NoEnd}
+use Rattle.text.specs.declared.fault.Unread.{Unread}
+use Rattle.text.specs.declared.fault.Unread.TheVariants.{Faulty, NoMemory}
 use Rattle.text.specs.Cuts.{fields_of}
 
 -- every byte is a digit
-unfoldable pub are_digits : List ℕ → Bool
-are_digits [] = true
-are_digits (b ∷ bs) = is_ascii_digit b && are_digits bs
+abbrev pub are_digits : List ℕ → Bool
+are_digits bs = list_all is_ascii_digit bs
 
 -- the number that digits write, after digits that write a
-unfoldable pub number_after : ℕ → List ℕ → ℕ
-number_after a [] = a
-number_after a (b ∷ bs) = number_after (a * 10 + (b - 48)) bs
+abbrev pub number_after : ℕ → List ℕ → ℕ
+number_after a bs = fold (λ n b. n * 10 + (b - 48)) a bs
 
 -- the first byte is a digit
 abbrev pub begins : List ℕ → Bool
@@ -51,3 +53,9 @@ counted w (Err e) = Err e
 -- a line of fields of one to m digits
 abbrev pub line_answer : ℕ → Option ℕ → List ℕ → Result (List ℕ) LineFault
 line_answer m w line = counted w (numbers_from m 1 (fields_of line))
+
+-- a line is read as its numbers, or refused by its fault; besides, memory may be wanting
+abbrev pub ReadAs : Result (List ℕ) LineFault → Result (Vec ℕ Global) Unread → Type 0
+ReadAs answer (Ok v) = answer ≡ Ok (vec_items v)
+ReadAs answer (Err (Faulty e)) = answer ≡ Err e
+ReadAs answer (Err (NoMemory _)) = Unit {0}

@@ -1,9 +1,9 @@
 -- Loss scripts: what the lines of a text are, and where its first fault is. Assumes nothing.
-use Rattle.std.specs.Prelude.{◌≡◌, ℕ, ◌+◌, Bool, cond, ◌||◌, List, [], ◌∷◌, length, Some, None, Ok, Err, vec_items, Option, Result, nat_lt}
+use Rattle.std.specs.Prelude.{◌≡◌, ℕ, ◌+◌, Bool, cond, ◌||◌, List, [], ◌∷◌, length, Some, None, Ok, Err, vec_items, Vec, Option, Result, nat_lt}
+use Rattle.std.specs.declared.alloc.Global.{Global}
 use Rattle.text.specs.declared.fault.ScriptFault.{ScriptFault}
 use Rattle.text.specs.declared.fault.ScriptFault.TheVariants.{Line, TooLong, NoMemory}
 use Rattle.text.specs.declared.script.Script.{Script}
-use Rattle.text.specs.declared.script.reading.Reading.{Reading}
 use Rattle.text.specs.Cuts.{lines_of}
 use Rattle.text.specs.Lines.{line_answer}
 use Rattle.text.specs.Tables.{lists}
@@ -42,15 +42,20 @@ script_answer text = unless (fault_of text) (whole_lines text)
 abbrev pub script_lines : Script → List (List ℕ)
 script_lines s = lists (vec_items s.lines)
 
--- lines and fault as they were read, whatever the text's length
-pub record ReadLines (text : List ℕ) (r : Reading) : Type 0 where
-  pub lines_are : lists (vec_items r.lines) ≡ lines_before None (lines_of text)
-  pub fault_is : r.fault ≡ first_fault None 1 (lines_of text)
+-- lines were read up to a fault, if there is one; besides, memory may be wanting
+abbrev pub ReadTo : Option ScriptFault → List (List ℕ) → List (Vec ℕ Global) → Result (Unit {0}) ScriptFault → Type 0
+ReadTo fault lines read (Ok _) = (fault ≡ None) × (lists read ≡ lines)
+ReadTo fault lines read (Err (Line n e)) = (fault ≡ Some (Line n e)) × (lists read ≡ lines)
+ReadTo fault lines read (Err TooLong) = (fault ≡ Some TooLong) × (lists read ≡ lines)
+ReadTo fault lines read (Err NoMemory) = Unit {0}
 
--- lines and fault of a text
-pub record ReadText (text : List ℕ) (r : Reading) : Type 0 where
-  pub lines_are : lists (vec_items r.lines) ≡ whole_lines text
-  pub fault_is : r.fault ≡ fault_of text
+-- whatever the text's length
+abbrev pub ReadLines : List ℕ → List (Vec ℕ Global) → Result (Unit {0}) ScriptFault → Type 0
+ReadLines text = ReadTo (first_fault None 1 (lines_of text)) (lines_before None (lines_of text))
+
+-- nothing of a text that is too long
+abbrev pub ReadText : List ℕ → List (Vec ℕ Global) → Result (Unit {0}) ScriptFault → Type 0
+ReadText text = ReadTo (fault_of text) (whole_lines text)
 
 -- a text is read as its lines, or refused by its fault; besides, memory may be wanting
 abbrev pub ParsedScript : List ℕ → Result Script ScriptFault → Type 0

@@ -1,35 +1,47 @@
-// Cutting a text into lines, and a line into fields.
-ghost use Rattle.std.specs.Prelude.{◌≡◌, ◌<◌, length};
-ghost use Rattle.text.specs.Cuts.{ends_at, CutLine, FieldEnd};
+// Cutting a text into lines.
+ghost use Rattle.std.specs.Prelude.{◌≡◌, ◌<◌, ◌∷◌, length};
+ghost use Rattle.std.specs.Iterator.{YieldsFirstRef, item_count};
+ghost use Rattle.text.specs.Cuts.{lines_of};
 
-// Whether CR LF stands at this place of a text.
-fn line_ends(text: &[u8], at: usize) -> bool
-    requires { at < length text.now }
-    ensures { result ≡ ends_at text.now at }
+// The first line of a text with any byte, which goes up to CR LF or to the text's end, and what follows it.
+fn cut_line(text: &[u8]) -> (&[u8], &[u8])
+    requires { 0 < length text.now }
+    ensures { lines_of text.now ≡ result.0.now ∷ lines_of result.1.now }
 {
-    at + 1 < text.len() && text[at] == b'\r' && text[at + 1] == b'\n'
+    match text.windows(2).position(|pair| pair == b"\r\n".as_slice()) {
+        Some(end) => (&text[..end], &text[end + 2..]),
+        None => (text, &[]),
+    }
 }
 
-// The first line of a text, which goes up to CR LF or to the text's end, and what follows it.
-pub(crate) fn cut_line(text: &[u8]) -> (&[u8], &[u8])
-    ensures { CutLine text.now result.0.now result.1.now }
-{
-    for end in 0..text.len() {
-        if line_ends(text, end) {
-            return (&text[0..end], &text[end + 2..]);
-        }
-    }
-    (text, &text[text.len()..])
+// The lines of a text that are left.
+#[derive(Drop)]
+pub(crate) struct Lines<'a> {
+    rest: &'a [u8],
 }
 
-// Up to where the first field of a line goes: the place of the first comma, or the line's end.
-pub(crate) fn field_end(line: &[u8]) -> usize
-    ensures { FieldEnd line.now result }
-{
-    for end in 0..line.len() {
-        if line[end] == b',' {
-            return end;
-        }
+impl<'a> Lines<'a> {
+    // All lines of a text.
+    pub(crate) fn of(text: &'a [u8]) -> Lines<'a>
+        ensures { result.rest.now ≡ text.now }
+    {
+        Lines { rest: text }
     }
-    line.len()
+}
+
+impl<'a> Iterator for Lines<'a> {
+    type Item = &'a [u8];
+
+    ghost next_gives = { YieldsFirstRef (λ s. lines_of s.rest.now) };
+
+    ghost remaining = { item_count (λ s. lines_of s.rest.now) };
+
+    fn next(&mut self) -> Option<&'a [u8]> {
+        if self.rest.is_empty() {
+            return None;
+        }
+        let (line, rest) = cut_line(self.rest);
+        self.rest = rest;
+        Some(line)
+    }
 }

@@ -1,11 +1,12 @@
 // The faults of a script and of settings. Lines and fields count from 1.
-ghost use Rattle.std.specs.Prelude.{◌≡◌};
-ghost use Rattle.text.specs.Faults.{line_refusal, script_refusal, settings_refusal};
+ghost use Rattle.std.specs.Prelude.{◌≡◌, alloc_error};
+ghost use Rattle.text.specs.Faults.{line_refusal, script_refusal, settings_refusal, at_line, alone};
 ghost use Rattle.text.specs.declared.fault.SettingsFault.TheVariants.{Line as SettingsLine, NoMemory as SettingsNoMemory};
 ghost use Rattle.text.specs.declared.fault.ScriptFault.TheVariants.{NoMemory as ScriptNoMemory};
+ghost use Rattle.text.specs.declared.fault.Unread.TheVariants.{Faulty, NoMemory as UnreadNoMemory};
 
 use faults::{Fault, Layer, Refusal};
-use std::alloc::AllocError;
+use std::alloc::{AllocError, AllocFailed};
 
 // What is wrong in a line, and at which field.
 #[derive(Clone, Copy, PartialEq, Eq, Debug)]
@@ -38,6 +39,15 @@ pub enum SettingsFault {
     NoMemory,
 }
 
+// Why a line was not read.
+#[derive(Clone, Copy)]
+pub(crate) enum Unread {
+    // It has this fault.
+    Faulty(LineFault),
+    // No memory for its numbers.
+    NoMemory(AllocError),
+}
+
 impl LineFault {
     // The refusal of a text that has this fault in the line of this number.
     fn refusal(self, layer: Layer, line: usize) -> Refusal
@@ -47,6 +57,18 @@ impl LineFault {
             LineFault::NoDigit(field) => Refusal::in_text(layer, 21, line, field),
             LineFault::WrongCount(fields) => Refusal::in_text(layer, 22, line, fields),
             LineFault::NoEnd(field) => Refusal::in_text(layer, 23, line, field),
+        }
+    }
+}
+
+impl Unread {
+    // The fault of a script whose line of this number was not read.
+    pub(crate) fn at_line(self, line: usize) -> ScriptFault
+        ensures { result ≡ at_line line self }
+    {
+        match self {
+            Unread::Faulty(fault) => ScriptFault::Line(line, fault),
+            Unread::NoMemory(error) => error.into(),
         }
     }
 }
@@ -95,5 +117,32 @@ impl From<LineFault> for SettingsFault {
 
     fn from(fault: LineFault) -> SettingsFault {
         SettingsFault::Line(fault)
+    }
+}
+
+impl From<Unread> for SettingsFault {
+    ghost from_gives = { λ e r. r ≡ alone e };
+
+    fn from(unread: Unread) -> SettingsFault {
+        match unread {
+            Unread::Faulty(fault) => fault.into(),
+            Unread::NoMemory(error) => error.into(),
+        }
+    }
+}
+
+impl From<LineFault> for Unread {
+    ghost from_gives = { λ e r. r ≡ Faulty e };
+
+    fn from(fault: LineFault) -> Unread {
+        Unread::Faulty(fault)
+    }
+}
+
+impl<T: Drop> From<AllocFailed<T>> for Unread {
+    ghost from_gives = { λ _ r. r ≡ UnreadNoMemory alloc_error };
+
+    fn from(failed: AllocFailed<T>) -> Unread {
+        Unread::NoMemory(failed.into())
     }
 }

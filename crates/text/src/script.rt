@@ -4,7 +4,6 @@ ghost use Rattle.text.specs.Tables.{lists, number_at};
 
 mod ask;
 mod parse;
-mod reading;
 
 #[derive(Drop)]
 pub struct Script {

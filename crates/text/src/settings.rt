@@ -1,9 +1,9 @@
 // The settings of a load, one line of text: the field's size q, the symbols L in a packet, the packets Q in the queue.
 ghost use Rattle.text.specs.Configured.{ParsedSettings};
 
-use super::cut::cut_line;
+use super::cut::Lines;
 use super::fault::SettingsFault;
-use super::line::read_line;
+use super::line::LineForm;
 use std::alloc::Global;
 
 #[derive(Clone, Copy, PartialEq, Eq, Debug)]
@@ -18,8 +18,12 @@ impl Settings {
     pub fn parse(heap: Global, text: &[u8]) -> Result<Settings, SettingsFault>
         ensures { ParsedSettings text.now result }
     {
-        let (line, _) = cut_line(text);
-        let numbers = read_line(heap, line, 3, Some(3))??;
+        let form = LineForm {
+            digits: 3,
+            width: Some(3),
+        };
+        let line = Lines::of(text).next().unwrap_or(&[]);
+        let numbers = form.read(heap, line)?;
         Ok(Settings {
             q: numbers[0],
             symbols: numbers[1],

@@ -17,13 +17,12 @@ impl Script {
     pub fn digit(&self, line: usize, field: usize) -> u8
         ensures { result ≡ number_at (script_lines self.now) line field }
     {
-        if line >= self.lines.len() {
-            return 0;
-        }
-        let numbers = &self.lines[line];
-        if field >= numbers.len() {
-            return 0;
-        }
-        numbers[field] as u8
+        let digit = self
+            .lines
+            .get(line)
+            .and_then(|numbers| numbers.get(field))
+            .copied()
+            .unwrap_or(0);
+        digit as u8
     }
 }

@@ -1,23 +1,21 @@
-use Rattle.std.proofs.Common.{◌+◌, length, sym, refl, ◌∙◌, le_refl}
-use native.Mathlib.Nat.{sub-zero}
-use Rattle.std.proofs.lemmas.List.{take_rest, drop_all}
-use Rattle.text.proofs.Cutting.{before, line_further, line_cut, line_whole}
+use Rattle.std.proofs.Common.{◌≡◌, ◌+◌, suc, true, false, [], length, drop, rules, tests, lit≤, arith}
+use Rattle.std.proofs.lemmas.Iterator.{IsFirst-from_position}
+use Rattle.std.proofs.lemmas.List.{take_rest}
+use Rattle.std.proofs.lemmas.Option.{MatchOption-at_some, MatchOption-at_none}
+use Rattle.text.specs.Cuts.{lines_of}
+use Rattle.text.proofs.Cutting.{pairs_yielded, is_end, line_ended, line_alone}
 use Rattle.text.proofs.cut.cut_line.Goals as goal
 
-pub loop-end-init : goal.loop-end-init
-unfolding before
-loop-end-init c = refl
+pub returns-in-Some : goal.returns-in-Some
+returns-in-Some c =
+    let first = IsFirst-from_position _ _ c.position.result (λ p. is_end p ≡ true) (λ p. is_end p ≡ false) c.position.ensures.ran (pairs_yielded c.windows.result c.args.text.now c.windows.ensures.rest c.windows.ensures.size) (λ x q k. search (rules, tests)) (λ x q k. search (rules, tests)) in
+    let found = MatchOption-at_some _ _ c.in-Some.end c.in-Some.is first in
+    let two : c.in-Some.end + 2 ≡ suc (suc c.in-Some.end) = omega arith in
+    rw (take_rest c.args.text.now (c.in-Some.end + 2), two) (line_ended c.args.text.now c.in-Some.end found.0 (found.1 []) (λ k h. found.2 k [] (omega arith) h))
 
-pub loop-end-preserved : goal.loop-end-preserved
-loop-end-preserved c = line_further c.args.text.now c.loop-end.end c.loop-end.invariant c.loop-end-test.true (sym c.line_ends.ensures ∙ c.if-line_ends.false)
-
-pub returns-then-line_ends : goal.returns-then-line_ends
-returns-then-line_ends c =
-    let t = c.args.text.now in
-    let i = c.loop-end.end in
-    rw (sub-zero i, take_rest t (i + 2)) (line_cut t i c.loop-end.invariant c.loop-end-test.true (sym c.if-line_ends.ensures))
-
-pub returns : goal.returns
-returns c =
-    let t = c.args.text.now in
-    rw (take_rest t (length t), drop_all (length t) t (le_refl (length t))) (line_whole t c.loop-end.end c.loop-end.invariant c.loop-end-test.false)
+pub returns-in-None : goal.returns-in-None
+unfolding lines_of
+returns-in-None c =
+    let first = IsFirst-from_position _ _ c.position.result (λ p. is_end p ≡ true) (λ p. is_end p ≡ false) c.position.ensures.ran (pairs_yielded c.windows.result c.args.text.now c.windows.ensures.rest c.windows.ensures.size) (λ x q k. search (rules, tests)) (λ x q k. search (rules, tests)) in
+    let none = MatchOption-at_none _ _ c.in-None.is first in
+    line_alone c.args.text.now c.requires (λ k h. none k [] (omega arith) h)

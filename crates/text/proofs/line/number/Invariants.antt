@@ -1,9 +1,7 @@
-use Rattle.std.proofs.Common.{◌≡◌, ◌^◌, ◌<◌, true, drop}
-use Rattle.text.specs.Lines.{are_digits, number_after}
+use Rattle.std.proofs.Common.{◌≡◌, ◌^◌, ◌<◌, take}
+use Rattle.text.specs.Lines.{number_after}
 use Rattle.text.proofs.line.number.Given as goal
 
--- what is left, after the number so far, writes the whole number
+-- the number that the bytes so far write
 abbrev pub invariant-loop-byte : goal.invariant-loop-byte
-invariant-loop-byte l =
-    (number_after l.number (drop l.byte-index l.field) ≡ number_after 0 l.field)
-    × (are_digits (drop l.byte-index l.field) ≡ true) × (l.number < 10 ^ l.byte-index)
+invariant-loop-byte l = (l.number ≡ number_after 0 (take l.byte-index l.field)) × (l.number < 10 ^ l.byte-index)
