@@ -1,8 +1,9 @@
 -- The numbers of a script are digits, and its lines are few. Assumes nothing.
-use Rattle.std.proofs.Common.{◌≡◌, ℕ, zero, suc, ◌+◌, ◌≤◌, true, cond, ◌&&◌, eqb, ltb, leb, List, [], ◌∷◌, length, get_or, Some, None, Ok, Err, vec_items, vec_len, Option, Result, Vec, sym, refl, ap, ◌∙◌, subst, arith, lit≤}
+use Rattle.std.proofs.Common.{◌≡◌, ℕ, zero, suc, ◌+◌, ◌<◌, ◌≤◌, true, cond, ◌&&◌, eqb, ltb, leb, List, [], ◌∷◌, length, get_or, Some, None, Ok, Err, vec_items, vec_len, Option, Result, Vec, sym, refl, ap, ◌∙◌, subst, arith, lit≤}
+use Rattle.std.specs.Char.{is_ascii_digit}
 use Rattle.std.specs.declared.alloc.Global.{Global}
 use Rattle.std.proofs.lemmas.List.{length-map}
-use Rattle.std.proofs.lemmas.Bool.{and_parts, leb-true, ltb-false, or_parts, eqb-true, cond_both}
+use Rattle.std.proofs.lemmas.Bool.{and_parts, leb-true, ltb-true, ltb-false, or_parts, eqb-true, cond_both}
 use Rattle.faults.proofs.Passed.{passed}
 use Rattle.text.specs.declared.fault.LineFault.{LineFault}
 use Rattle.text.specs.declared.fault.LineFault.TheVariants.{NoDigit, WrongCount, NoEnd}
@@ -10,7 +11,30 @@ use Rattle.text.specs.Cuts.{lines_of, fields_of}
 use Rattle.text.specs.Lines.{are_digits, number_after, begins, field_answer, first_then, numbers_from, fits, counted, line_answer}
 use Rattle.text.specs.Tables.{lists, number_at}
 use Rattle.text.specs.Scripts.{lines_before, too_long, whole_lines}
-use Rattle.text.proofs.Digits.{digit_range}
+
+-- a digit is a byte from 48 to 57
+pub digit_range : (b : ℕ) → is_ascii_digit b ≡ true → (48 ≤ b) × (b ≤ 57)
+digit_range b e = let p = and_parts (leb 48 b) (leb b 57) e in (leb-true 48 b p.0, leb-true b 57 p.1)
+
+-- what a field that was read is
+pub record Field (m n : ℕ) (f : List ℕ) : Type 0 where
+  pub some : 0 < length f
+  pub few : length f ≤ m
+  pub digits : are_digits f ≡ true
+  pub value : n ≡ number_after 0 f
+
+pub field_is : (m k n : ℕ) (f : List ℕ) → field_answer m k f ≡ Ok n → Field m n f
+field_is m k n f h =
+    let number : Result ℕ LineFault = Ok (number_after 0 f) in
+    let p = passed (begins f) n (cond (leb (length f) m && are_digits f) number (Err (NoEnd k))) (NoDigit k) (sym h) in
+    let q = passed (leb (length f) m && are_digits f) n number (NoEnd k) p.1 in
+    let t = and_parts (leb (length f) m) (are_digits f) q.0 in
+    record {
+      some = ltb-true 0 (length f) (and_parts (ltb 0 (length f)) (is_ascii_digit (get_or f 0 0)) p.0).0;
+      few = leb-true (length f) m t.0;
+      digits = t.1;
+      value = let e = q.1 in cc;
+    }
 
 one_digit : (f : List ℕ) → length f ≤ 1 → are_digits f ≡ true → number_after 0 f ≤ 9
 one_digit [] h e = lit≤ tt
@@ -18,20 +42,14 @@ one_digit (b ∷ []) h e = let r = digit_range b (and_parts _ _ e).0 in omega ar
 one_digit (b ∷ (c ∷ bs)) h e = absurd (omega arith)
 
 digit_read : (k n : ℕ) (f : List ℕ) → field_answer 1 k f ≡ Ok n → n ≤ 9
-digit_read k n f h =
-    let number : Result ℕ LineFault = Ok (number_after 0 f) in
-    let p = passed (begins f) n (cond (leb (length f) 1 && are_digits f) number (Err (NoEnd k))) (NoDigit k) (sym h) in
-    let q = passed (leb (length f) 1 && are_digits f) n number (NoEnd k) p.1 in
-    let t = and_parts (leb (length f) 1) (are_digits f) q.0 in
-    let same : n ≡ number_after 0 f = let e = q.1 in cc in
-    subst (λ m. m ≤ 9) (sym same) (one_digit f (leb-true (length f) 1 t.0) t.1)
+digit_read k n f h = let field = field_is 1 k n f h in subst (λ m. m ≤ 9) (sym field.value) (one_digit f field.few field.digits)
 
 -- numbers that were read: the first, and then the others
 pub parts : (r : Result ℕ LineFault) (s : Result (List ℕ) LineFault) (ns : List ℕ) → first_then r s ≡ Ok ns
     → (n : ℕ) × (ms : List ℕ) × (r ≡ Ok n) × (s ≡ Ok ms) × (ns ≡ n ∷ ms)
 parts (Ok n) (Ok ms) ns e = let same : ns ≡ n ∷ ms = cc in (n, ms, refl, refl, same)
-parts (Ok n) (Err d) ns e = let z : ◌≡◌ {A = ℕ} 0 1 = cc in absurd (omega arith)
-parts (Err d) s ns e = let z : ◌≡◌ {A = ℕ} 0 1 = cc in absurd (omega arith)
+parts (Ok n) (Err d) ns e = cc
+parts (Err d) s ns e = cc
 
 numbers_read : (k : ℕ) (fs : List (List ℕ)) (ns : List ℕ) → numbers_from 1 k fs ≡ Ok ns → (j : ℕ) → get_or ns j 0 ≤ 9
 unfolding numbers_from
@@ -46,7 +64,7 @@ numbers_read k (f ∷ fs) ns e j =
 
 pub read_whole : (w : Option ℕ) (r : Result (List ℕ) LineFault) (ns : List ℕ) → counted w r ≡ Ok ns → r ≡ Ok ns
 read_whole w (Ok ms) ns e = sym (passed (fits w (length ms)) ns (Ok ms) (WrongCount (length ms)) (sym e)).1
-read_whole w (Err d) ns e = let z : ◌≡◌ {A = ℕ} 0 1 = cc in absurd (omega arith)
+read_whole w (Err d) ns e = cc
 
 lines_digits : (w : Option ℕ) (ls : List (List ℕ)) (i k : ℕ) → number_at (lines_before w ls) i k ≤ 9
 unfolding lines_before
@@ -91,4 +109,4 @@ wide w (Ok ms) ns e =
     let p = passed (eqb (length ms) w) ns (Ok ms) (WrongCount (length ms)) (sym e) in
     let same : ns ≡ ms = let q = p.1 in cc in
     ap length same ∙ eqb-true (length ms) w p.0
-wide w (Err d) ns e = let z : ◌≡◌ {A = ℕ} 0 1 = cc in absurd (omega arith)
+wide w (Err d) ns e = cc

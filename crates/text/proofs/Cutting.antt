@@ -1,7 +1,8 @@
 -- A text is cut at the first CR LF in it. Assumes nothing.
-use Rattle.std.proofs.Common.{◌≡◌, ℕ, zero, suc, ◌+◌, ◌<◌, ◌≤◌, Bool, true, false, ◌&&◌, eqb, Some, None, Bor, List, [], ◌∷◌, length, get_or, take, drop, sym, refl, ap, ◌∙◌, subst, ap₂, arith}
+use Rattle.std.proofs.Common.{◌≡◌, ℕ, zero, suc, ◌+◌, ◌<◌, ◌≤◌, Bool, true, false, ◌&&◌, eqb, Some, None, Option, Bor, List, [], ◌∷◌, length, get_or, take, drop, sym, refl, ap, ◌∙◌, subst, ap₂, arith}
 use Rattle.std.specs.declared.slice.Windows.{Windows}
-use Rattle.std.specs.List.{onto_first}
+use Rattle.std.specs.List.{AllWithin, HoldsAt, onto_first}
+use Rattle.std.specs.Option.{MatchOption}
 use Rattle.std.specs.Slice.Iter.{windows_rest, windows_size, windows_steps}
 use Rattle.std.specs.Str.{bytes_eq}
 use Rattle.std.proofs.lemmas.Bool.{cond-true, cond-false, cond_both}
@@ -48,7 +49,7 @@ pair_is b c = ap (λ x. eqb b 13 && x) (and_true (eqb c 10))
     and_true false = refl
 
 -- the first pair that is CR LF ends the first line
-pub line_ended : (t : List ℕ) (i : ℕ) → i < length (pairs t) → is_end (get_or (pairs t) i []) ≡ true → ((k : ℕ) → k < i → is_end (get_or (pairs t) k []) ≡ false)
+line_ended : (t : List ℕ) (i : ℕ) → i < length (pairs t) → is_end (get_or (pairs t) i []) ≡ true → ((k : ℕ) → k < i → is_end (get_or (pairs t) k []) ≡ false)
     → lines_of t ≡ take i t ∷ lines_of (drop (suc (suc i)) t)
 unfolding lines_of
 line_ended [] i h here before = absurd (omega arith)
@@ -59,7 +60,7 @@ line_ended (b ∷ (c ∷ bs)) (suc i) h here before =
     ∙ ap (onto_first b) (line_ended (c ∷ bs) i (omega arith) here (λ k l. before (suc k) (omega arith)))
 
 -- with no such pair the text is one line
-pub line_alone : (t : List ℕ) → 0 < length t → ((k : ℕ) → k < length (pairs t) → is_end (get_or (pairs t) k []) ≡ false) → lines_of t ≡ t ∷ []
+line_alone : (t : List ℕ) → 0 < length t → ((k : ℕ) → k < length (pairs t) → is_end (get_or (pairs t) k []) ≡ false) → lines_of t ≡ t ∷ []
 unfolding lines_of
 line_alone [] h before = absurd (omega arith)
 line_alone (b ∷ []) h before = refl
@@ -67,17 +68,24 @@ line_alone (b ∷ (c ∷ bs)) h before =
     cond-false (eqb b 13 && eqb c 10) ([] ∷ lines_of bs) (onto_first b (lines_of (c ∷ bs))) (sym (pair_is b c) ∙ before 0 (omega arith))
     ∙ ap (onto_first b) (line_alone (c ∷ bs) (omega arith) (λ k l. before (suc k) (omega arith)))
 
+-- what `position` gives cuts off the first line
+pub cut_at : (t : List ℕ) → 0 < length t → (r : Option ℕ)
+    → MatchOption r (AllWithin (λ p. is_end p ≡ false) (pairs t) 0 (length (pairs t))) (λ i. (i < length (pairs t)) × HoldsAt (λ p. is_end p ≡ true) (pairs t) i × AllWithin (λ p. is_end p ≡ false) (pairs t) 0 i)
+    → MatchOption r (lines_of t ≡ t ∷ []) (λ i. lines_of t ≡ take i t ∷ lines_of (drop (i + 2) t))
+cut_at t h None none = line_alone t h (λ k l. none k [] (omega arith) l)
+cut_at t h (Some i) first = let two : i + 2 ≡ suc (suc i) = omega arith in rw two (line_ended t i first.0 (first.1 []) (λ k l. first.2 k [] (omega arith) l))
+
 -- no line is empty and without an end, so there are no more lines than bytes
 first_line : (b : ℕ) (ls : List (List ℕ)) → length (onto_first b ls) ≤ length ls + 1
 first_line b [] = omega arith
 first_line b (l ∷ ls) = omega arith
 
-pub lines_few : (t : List ℕ) → length (lines_of t) ≤ length t
+pub few_lines : (t : List ℕ) → length (lines_of t) ≤ length t
 unfolding lines_of
-lines_few [] = omega arith
-lines_few (b ∷ []) = omega arith
-lines_few (b ∷ (c ∷ bs)) =
-    let some = lines_few bs in
-    let others = lines_few (c ∷ bs) in
+few_lines [] = omega arith
+few_lines (b ∷ []) = omega arith
+few_lines (b ∷ (c ∷ bs)) =
+    let some = few_lines bs in
+    let others = few_lines (c ∷ bs) in
     let first = first_line b (lines_of (c ∷ bs)) in
     cond_both (eqb b 13 && eqb c 10) ([] ∷ lines_of bs) (onto_first b (lines_of (c ∷ bs))) (λ (ls : List (List ℕ)). length ls ≤ length (b ∷ (c ∷ bs))) (λ _. omega arith) (λ _. omega arith)

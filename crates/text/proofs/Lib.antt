@@ -1,5 +1,4 @@
 pub mod Cutting
-pub mod Digits
 pub mod Numbers
 pub mod Turns
 pub mod Bounds

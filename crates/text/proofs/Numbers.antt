@@ -1,5 +1,5 @@
 -- Numbers read so far, and the fields that are left of a line. Assumes nothing.
-use Rattle.std.proofs.Common.{◌≡◌, ℕ, ◌+◌, ◌<◌, List, [], ◌∷◌, ◌++◌, length, get_or, drop, Some, None, Ok, Err, Option, Result, sym, refl, ap, ◌∙◌, append_assoc, append-nil, arith}
+use Rattle.std.proofs.Common.{◌≡◌, ℕ, ◌+◌, List, [], ◌∷◌, ◌++◌, length, drop, Some, None, Ok, Err, Option, Result, sym, refl, ap, ◌∙◌, append_assoc, append-nil, arith}
 use Rattle.std.specs.Iterator.{Yields}
 use Rattle.std.proofs.lemmas.Iterator.{YieldsList}
 use Rattle.std.proofs.lemmas.Iterator.Consumers.{YieldsList-turn, YieldsList-end}
@@ -27,26 +27,26 @@ after_push ns n (Ok ms) = ap Ok (sym (append_assoc ns (n ∷ []) ms))
 after_push ns n (Err e) = refl
 
 -- of these fields, some were read as the numbers ns, and the others, counted from k on, are left
-abbrev pub Sofar : ℕ → List (List ℕ) → List ℕ → ℕ → List (List ℕ) → Type 0
-Sofar m fields ns k left = numbers_from m 1 fields ≡ after ns (numbers_from m k left)
+pub record Sofar (m : ℕ) (fields : List (List ℕ)) (ns : List ℕ) (k : ℕ) (left : List (List ℕ)) : Type 0 where
+  pub gives : numbers_from m 1 fields ≡ after ns (numbers_from m k left)
 
 pub none_read : (m : ℕ) (fields : List (List ℕ)) → Sofar m fields [] 1 fields
-none_read m fields = in_front_of_none (numbers_from m 1 fields)
+none_read m fields = record { gives = after_none (numbers_from m 1 fields) }
   where
-    in_front_of_none : (r : Result (List ℕ) LineFault) → r ≡ after [] r
-    in_front_of_none (Ok ms) = refl
-    in_front_of_none (Err e) = refl
+    after_none : (r : Result (List ℕ) LineFault) → r ≡ after [] r
+    after_none (Ok ms) = refl
+    after_none (Err e) = refl
 
-module _ (m : ℕ) (fields : List (List ℕ)) (ns : List ℕ) (k : ℕ) where
-  pub all_read : Sofar m fields ns k [] → numbers_from m 1 fields ≡ Ok ns
+module _ {m : ℕ} {fields : List (List ℕ)} {ns : List ℕ} {k : ℕ} where
+  pub all_read : {left : List (List ℕ)} → left ≡ [] → Sofar m fields ns k left → numbers_from m 1 fields ≡ Ok ns
   unfolding numbers_from
-  all_read s = s ∙ ap Ok (append-nil ns)
+  all_read none s = s.gives ∙ ap (λ fs. after ns (numbers_from m k fs)) none ∙ ap Ok (append-nil ns)
 
-  module _ (f : List ℕ) (left : List (List ℕ)) (s : Sofar m fields ns k (f ∷ left)) where
-    pub field_refused : (e : LineFault) → field_answer m k f ≡ Err e → numbers_from m 1 fields ≡ Err e
+  module _ {f : List ℕ} {left : List (List ℕ)} (s : Sofar m fields ns k (f ∷ left)) where
+    pub field_refused : {e : LineFault} → field_answer m k f ≡ Err e → numbers_from m 1 fields ≡ Err e
     unfolding numbers_from
-    field_refused e h = s ∙ ap (λ r. after ns (first_then r (numbers_from m (k + 1) left))) h
+    field_refused h = s.gives ∙ ap (λ r. after ns (first_then r (numbers_from m (k + 1) left))) h
 
-    pub field_read : (n : ℕ) → field_answer m k f ≡ Ok n → Sofar m fields (ns ++ (n ∷ [])) (k + 1) left
+    pub field_read : {n : ℕ} → field_answer m k f ≡ Ok n → Sofar m fields (ns ++ (n ∷ [])) (k + 1) left
     unfolding numbers_from
-    field_read n h = s ∙ ap (λ r. after ns (first_then r (numbers_from m (k + 1) left))) h ∙ after_push ns n (numbers_from m (k + 1) left)
+    field_read {n = n} h = record { gives = s.gives ∙ ap (λ r. after ns (first_then r (numbers_from m (k + 1) left))) h ∙ after_push ns n (numbers_from m (k + 1) left) }

@@ -1,61 +1,40 @@
 -- Nothing else is read as lines than those lines written out. Assumes nothing.
-use Rattle.std.proofs.Common.{◌≡◌, ℕ, ◌+◌, ◌-◌, ◌*◌, ◌<◌, ◌≤◌, Bool, true, false, cond, ◌&&◌, eqb, ltb, leb, ◌⊎◌, List, [], ◌∷◌, ◌++◌, map, length, get_or, Some, None, Ok, Err, Option, Result, sym, refl, ap, ◌∙◌, subst, ap₂, inl, inr, ⊎_elim, arith}
+use Rattle.std.proofs.Common.{◌≡◌, ℕ, ◌+◌, ◌-◌, ◌*◌, ◌<◌, ◌≤◌, Bool, true, false, cond, ◌&&◌, eqb, ◌⊎◌, List, [], ◌∷◌, ◌++◌, map, length, Some, None, Ok, Err, Option, Result, sym, refl, ap, ◌∙◌, subst, ap₂, inl, inr, ⊎_elim, arith}
 use Rattle.std.specs.Char.{is_ascii_digit}
 use Rattle.std.specs.List.{onto_first, join_with_byte}
 use Rattle.std.proofs.lemmas.List.Splits.{join_with_byte-slice_split}
-use Rattle.std.proofs.lemmas.Bool.{cases_eq, cases_Bool, and_parts, cond-true, cond-false, cond_both, eq-eqb, ne_eqb, eqb-true, leb-true, ltb-true}
-use Rattle.faults.proofs.Passed.{passed}
+use Rattle.std.proofs.lemmas.Bool.{cases_Bool, and_parts, cond-true, cond-false, cond_both, eqb-true}
 use Rattle.text.specs.declared.fault.LineFault.{LineFault}
-use Rattle.text.specs.declared.fault.LineFault.TheVariants.{NoDigit, NoEnd}
 use Rattle.text.specs.declared.fault.ScriptFault.{ScriptFault}
 use Rattle.text.specs.declared.fault.ScriptFault.TheVariants.{Line, TooLong}
 use Rattle.text.specs.Cuts.{lines_of, fields_of}
-use Rattle.text.specs.Lines.{are_digits, number_after, begins, field_answer, numbers_from, line_answer}
+use Rattle.text.specs.Lines.{are_digits, number_after, field_answer, numbers_from, line_answer}
 use Rattle.text.specs.Scripts.{lines_before, first_fault, too_long, fault_of, whole_lines, unless}
-use Rattle.text.specs.Written.{line_text, script_line, script_text, open_script_text, ScriptsWritten}
-use Rattle.text.proofs.Digits.{digit_range}
-use Rattle.text.proofs.Bounds.{parts, read_whole}
+use Rattle.text.specs.Written.{digits_text, script_line, script_text, open_script_text, ScriptsWritten}
+use Rattle.text.proofs.Bounds.{digit_range, field_is, parts, read_whole}
 
 onto_some : (b : ℕ) (ps : List (List ℕ)) → 0 < length (onto_first b ps)
 onto_some b [] = omega arith
 onto_some b (p ∷ ps) = omega arith
 
 -- a digit that was read is the byte of that digit
-one_byte : (f : List ℕ) → 0 < length f → length f ≤ 1 → are_digits f ≡ true → f ≡ (48 + number_after 0 f) ∷ []
+one_byte : (f : List ℕ) → 0 < length f → length f ≤ 1 → are_digits f ≡ true → f ≡ digits_text (number_after 0 f ∷ [])
 one_byte [] s h e = absurd (omega arith)
 one_byte (b ∷ []) s h e = let r = digit_range b (and_parts (is_ascii_digit b) true e).0 in let same : b ≡ 48 + (0 * 10 + (b - 48)) = omega arith in ap (λ x. x ∷ []) same
 one_byte (b ∷ (c ∷ bs)) s h e = absurd (omega arith)
 
-digit_written : (k n : ℕ) (f : List ℕ) → field_answer 1 k f ≡ Ok n → f ≡ (48 + n) ∷ []
-digit_written k n f h =
-    let number : Result ℕ LineFault = Ok (number_after 0 f) in
-    let p = passed (begins f) n (cond (leb (length f) 1 && are_digits f) number (Err (NoEnd k))) (NoDigit k) (sym h) in
-    let q = passed (leb (length f) 1 && are_digits f) n number (NoEnd k) p.1 in
-    let t = and_parts (leb (length f) 1) (are_digits f) q.0 in
-    let some = ltb-true 0 (length f) (and_parts (ltb 0 (length f)) (is_ascii_digit (get_or f 0 0)) p.0).0 in
-    let same : number_after 0 f ≡ n = let e = q.1 in cc in
-    one_byte f some (leb-true (length f) 1 t.0) t.1 ∙ ap (λ m. (48 + m) ∷ []) same
+digit_written : (k n : ℕ) (f : List ℕ) → field_answer 1 k f ≡ Ok n → f ≡ digits_text (n ∷ [])
+digit_written k n f h = let field = field_is 1 k n f h in one_byte f field.some field.few field.digits ∙ ap (λ m. digits_text (m ∷ [])) (sym field.value)
 
-bytes : List ℕ → List (List ℕ)
-bytes ns = map (λ n. (48 + n) ∷ []) ns
-
-numbers_written : (k : ℕ) (fs : List (List ℕ)) (ns : List ℕ) → numbers_from 1 k fs ≡ Ok ns → fs ≡ bytes ns
-unfolding numbers_from bytes
-numbers_written k [] ns e = let none : ns ≡ [] = cc in sym (ap bytes none)
+numbers_written : (k : ℕ) (fs : List (List ℕ)) (ns : List ℕ) → numbers_from 1 k fs ≡ Ok ns → fs ≡ map digits_text (map (λ n. n ∷ []) ns)
+unfolding numbers_from
+numbers_written k [] ns e = let none : ns ≡ [] = cc in sym (ap (λ ms. map digits_text (map (λ n. n ∷ []) ms)) none)
 numbers_written k (f ∷ fs) ns e =
     let p = parts (field_answer 1 k f) (numbers_from 1 (k + 1) fs) ns e in
-    ap₂ (λ (x : List ℕ) (xs : List (List ℕ)). x ∷ xs) (digit_written k p.0 f p.2) (numbers_written (k + 1) fs p.1 p.3) ∙ sym (ap bytes p.4)
-
--- with commas between them they are the line
-join_bytes : (ns : List ℕ) → join_with_byte 44 (bytes ns) ≡ script_line ns
-unfolding bytes line_text
-join_bytes [] = refl
-join_bytes (n ∷ []) = refl
-join_bytes (n ∷ (m ∷ ns)) = ap (λ t. (48 + n) ∷ (44 ∷ t)) (join_bytes (m ∷ ns))
+    ap₂ (λ (x : List ℕ) (xs : List (List ℕ)). x ∷ xs) (digit_written k p.0 f p.2) (numbers_written (k + 1) fs p.1 p.3) ∙ sym (ap (λ ms. map digits_text (map (λ n. n ∷ []) ms)) p.4)
 
 line_written : (w : Option ℕ) (l ns : List ℕ) → line_answer 1 w l ≡ Ok ns → l ≡ script_line ns
-line_written w l ns h =
-    sym (join_with_byte-slice_split 44 l) ∙ ap (join_with_byte 44) (numbers_written 1 (fields_of l) ns (read_whole w (numbers_from 1 1 (fields_of l)) ns h)) ∙ join_bytes ns
+line_written w l ns h = sym (join_with_byte-slice_split 44 l) ∙ ap (join_with_byte 44) (numbers_written 1 (fields_of l) ns (read_whole w (numbers_from 1 1 (fields_of l)) ns h))
 
 lines_written : (w : Option ℕ) (n : ℕ) (raw : List (List ℕ)) → first_fault w n raw ≡ None → raw ≡ map script_line (lines_before w raw)
 unfolding first_fault lines_before
@@ -66,7 +45,7 @@ lines_written w n (l ∷ ls) h = go (λ m. lines_written (Some m) (n + 1) ls) (l
         → ◌≡◌ {A = Option ScriptFault} (elim r [ Ok ns ↦ first_fault (Some (length ns)) (n + 1) ls | Err e ↦ Some (Line n e) ]) None
         → l ∷ ls ≡ map script_line (elim r [ Ok ns ↦ ns ∷ lines_before (Some (length ns)) ls | Err e ↦ [] ])
     go rest (Ok ns) e h = ap₂ (λ (x : List ℕ) (xs : List (List ℕ)). x ∷ xs) (line_written w l ns e) (rest (length ns) h)
-    go rest (Err d) e h = let z : ◌≡◌ {A = ℕ} 0 1 = cc in absurd (omega arith)
+    go rest (Err d) e h = cc
 
 -- lines put together again, the last one ended by CR LF or not
 closed : List (List ℕ) → List ℕ
@@ -139,10 +118,10 @@ opened_script (l ∷ (m ∷ ls)) = ap (λ t. script_line l ++ (13 ∷ (10 ∷ t)
 -- a text that is read as lines has no fault, and these are its lines
 no_fault : (o : Option ScriptFault) (ls lines : List (List ℕ)) → unless o ls ≡ Ok lines → (o ≡ None) × (ls ≡ lines)
 no_fault None ls lines e = let same : ls ≡ lines = cc in (refl, same)
-no_fault (Some f) ls lines e = let z : ◌≡◌ {A = ℕ} 0 1 = cc in absurd (omega arith)
+no_fault (Some f) ls lines e = cc
 
 not_long : (b : Bool) (o : Option ScriptFault) → cond b (Some TooLong) o ≡ None → (b ≡ false) × (o ≡ None)
-not_long true o e = let z : ◌≡◌ {A = ℕ} 0 1 = cc in absurd (omega arith)
+not_long true o e = cc
 not_long false o e = (refl, e)
 
 pub scripts_written : ScriptsWritten

@@ -1,9 +1,10 @@
 -- What was written out is read back. Assumes nothing.
 use Rattle.std.proofs.Common.{◌≡◌, ℕ, zero, suc, ◌+◌, ◌-◌, ◌*◌, ◌<◌, ◌≤◌, true, false, ◌&&◌, eqb, ltb, leb, List, [], ◌∷◌, ◌++◌, map, length, get_or, Some, None, Ok, Err, Option, Result, sym, refl, ap, ◌∙◌, subst, ap₂, arith}
 use Rattle.std.specs.Char.{is_ascii_digit}
-use Rattle.std.specs.List.{onto_first}
+use Rattle.std.specs.List.{All, onto_first}
+use Rattle.std.proofs.lemmas.List.Splits.{slice_split_none, slice_split_at}
 use Rattle.std.proofs.lemmas.List.{length-map, length-append, append-nil}
-use Rattle.std.proofs.lemmas.Bool.{cond-true, cond-false, and_from, and_left, and_right, le-leb, le-ltb, lt-ltb, ne_eqb, eq-eqb, or_from}
+use Rattle.std.proofs.lemmas.Bool.{cond-true, cond-false, and_from, and_left, le-leb, le-ltb, lt-ltb, ne_eqb, eq-eqb, or_from}
 use Rattle.text.specs.declared.fault.LineFault.{LineFault}
 use Rattle.text.specs.declared.fault.LineFault.TheVariants.{NoDigit, NoEnd, WrongCount}
 use Rattle.text.specs.declared.fault.ScriptFault.{ScriptFault}
@@ -25,7 +26,6 @@ text_digits [] e = refl
 text_digits (d ∷ ds) e = and_from (is_ascii_digit (48 + d)) (are_digits (digits_text ds)) (is_digit d (e 0)) (text_digits ds (λ k. e (suc k)))
 
 text_value : (a : ℕ) (ds : List ℕ) → number_after a (digits_text ds) ≡ value_after a ds
-unfolding value_after
 text_value a [] = refl
 text_value a (d ∷ ds) = let same : a * 10 + (48 + d - 48) ≡ a * 10 + d = omega arith in ap (λ n. number_after n (digits_text ds)) same ∙ text_value (a * 10 + d) ds
 
@@ -42,32 +42,24 @@ field_back m k ds w =
     ∙ ap Ok (text_value 0 ds)
 
 -- digits have no comma among them
-comma_after : (ds : List ℕ) → Each ds → (rest : List ℕ) → fields_of (digits_text ds ++ (44 ∷ rest)) ≡ digits_text ds ∷ fields_of rest
-comma_after [] e rest = refl
-comma_after (d ∷ ds) e rest =
-    let few = e 0 in
-    cond-false (eqb (48 + d) 44) ([] ∷ fields_of (digits_text ds ++ (44 ∷ rest))) (onto_first (48 + d) (fields_of (digits_text ds ++ (44 ∷ rest)))) (ne_eqb (48 + d) 44 (λ x. omega arith))
-    ∙ ap (onto_first (48 + d)) (comma_after ds (λ k. e (suc k)) rest)
-
-no_comma : (ds : List ℕ) → Each ds → fields_of (digits_text ds) ≡ digits_text ds ∷ []
-no_comma [] e = refl
-no_comma (d ∷ ds) e =
-    let few = e 0 in
-    cond-false (eqb (48 + d) 44) ([] ∷ fields_of (digits_text ds)) (onto_first (48 + d) (fields_of (digits_text ds))) (ne_eqb (48 + d) 44 (λ x. omega arith)) ∙ ap (onto_first (48 + d)) (no_comma ds (λ k. e (suc k)))
+no_comma : (ds : List ℕ) → Each ds → All (λ b. eqb b 44 ≡ false) (digits_text ds)
+no_comma [] e k x h = absurd (omega arith)
+no_comma (d ∷ ds) e zero x h = ne_eqb (48 + d) 44 (λ y. let few = e 0 in omega arith)
+no_comma (d ∷ ds) e (suc k) x h = no_comma ds (λ j. e (suc j)) k x (omega arith)
 
 -- every field of a line is one to m digits
 abbrev Fields : ℕ → List (List ℕ) → Type 0
 Fields m fs = (i : ℕ) → i < length fs → Digits m (get_or fs i [])
 
 numbers_back : (m k : ℕ) (fs : List (List ℕ)) → 1 ≤ length fs → Fields m fs → numbers_from m k (fields_of (line_text fs)) ≡ Ok (map (value_after 0) fs)
-unfolding numbers_from line_text
+unfolding numbers_from
 numbers_back m k [] s w = absurd (omega arith)
 numbers_back m k (f ∷ []) s w =
     let here = w 0 (omega arith) in
-    ap (numbers_from m k) (no_comma f here.each) ∙ ap (λ r. first_then r (Ok [])) (field_back m k f here)
+    ap (numbers_from m k) (slice_split_none (λ b. eqb b 44) (digits_text f) (no_comma f here.each)) ∙ ap (λ r. first_then r (Ok [])) (field_back m k f here)
 numbers_back m k (f ∷ (g ∷ fs)) s w =
     let here = w 0 (omega arith) in
-    ap (numbers_from m k) (comma_after f here.each (line_text (g ∷ fs)))
+    ap (numbers_from m k) (slice_split_at (λ b. eqb b 44) (digits_text f) 44 (line_text (g ∷ fs)) (no_comma f here.each) refl)
     ∙ ap₂ first_then (field_back m k f here) (numbers_back m (k + 1) (g ∷ fs) (omega arith) (λ i h. w (suc i) (omega arith)))
 
 line_back : (m : ℕ) (w : Option ℕ) (fs : List (List ℕ)) → 1 ≤ length fs → Fields m fs → fits w (length fs) ≡ true → line_answer m w (line_text fs) ≡ Ok (map (value_after 0) fs)
@@ -88,7 +80,6 @@ none_plain : Plain []
 none_plain i x = omega arith
 
 line_plain : (m : ℕ) (fs : List (List ℕ)) → Fields m fs → Plain (line_text fs)
-unfolding line_text
 line_plain m [] w = none_plain
 line_plain m (f ∷ []) w = subst Plain (append-nil (digits_text f)) (digits_plain f (w 0 (omega arith)).each [] none_plain)
 line_plain m (f ∷ (g ∷ fs)) w = digits_plain f (w 0 (omega arith)).each (44 ∷ line_text (g ∷ fs)) (after (line_plain m (g ∷ fs) (λ i h. w (suc i) (omega arith))))
@@ -115,7 +106,6 @@ no_end (b ∷ []) s h = refl
 no_end (b ∷ (c ∷ p)) s h = goes_on b (c ∷ p) (h 0) ∙ ap (onto_first b) (no_end (c ∷ p) (omega arith) (λ i. h (suc i)))
 
 line_some : (m : ℕ) (fs : List (List ℕ)) → 1 ≤ length fs → Fields m fs → 1 ≤ length (line_text fs)
-unfolding line_text
 line_some m [] s w = absurd (omega arith)
 line_some m (f ∷ []) s w = let e = length-map f (λ d. 48 + d) in omega (arith, (w 0 (omega arith)).some, e)
 line_some m (f ∷ (g ∷ fs)) s w = let e = length-append (digits_text f) (44 ∷ line_text (g ∷ fs)) in omega arith
@@ -134,7 +124,6 @@ singles_fields (d ∷ l) e zero h = record { some = omega arith; few = omega ari
 singles_fields (d ∷ l) e (suc i) h = singles_fields l (λ k. e (suc k)) i (omega arith)
 
 singles_value : (l : List ℕ) → map (value_after 0) (singles l) ≡ l
-unfolding value_after
 singles_value [] = refl
 singles_value (d ∷ l) = let same : 0 * 10 + d ≡ d = omega arith in ap₂ (λ (x : ℕ) (xs : List ℕ). x ∷ xs) same (singles_value l)
 

@@ -1,5 +1,6 @@
 -- Texts made by writing numbers out, and that they are read back. Assumes nothing.
-use Rattle.std.specs.Prelude.{◌≡◌, ℕ, ◌+◌, ◌*◌, ◌<◌, ◌≤◌, ◌⊎◌, List, [], ◌∷◌, ◌++◌, map, length, Ok, slice_index, slice_index_or}
+use Rattle.std.specs.Prelude.{◌≡◌, ℕ, ◌+◌, ◌*◌, ◌<◌, ◌≤◌, ◌⊎◌, List, [], ◌∷◌, ◌++◌, map, length, fold, Ok, slice_index, slice_index_or}
+use Rattle.std.specs.List.{join_with_byte}
 use Rattle.text.specs.Scripts.{script_answer}
 use Rattle.text.specs.Configured.{settings_answer}
 
@@ -8,10 +9,8 @@ abbrev pub digits_text : List ℕ → List ℕ
 digits_text ds = map (λ d. 48 + d) ds
 
 -- a line of fields, each given by its digits, with commas (44) between them
-unfoldable pub line_text : List (List ℕ) → List ℕ
-line_text [] = []
-line_text (f ∷ []) = digits_text f
-line_text (f ∷ (g ∷ fs)) = digits_text f ++ (44 ∷ line_text (g ∷ fs))
+abbrev pub line_text : List (List ℕ) → List ℕ
+line_text fs = join_with_byte 44 (map digits_text fs)
 
 -- a line of single digits
 abbrev pub script_line : List ℕ → List ℕ
@@ -50,9 +49,8 @@ abbrev pub ScriptsWritten : Type 0
 ScriptsWritten = (text : List ℕ) (lines : List (List ℕ)) → script_answer text ≡ Ok lines → (text ≡ script_text lines) ⊎ (text ≡ open_script_text lines)
 
 -- the number that digits say, after digits that say a
-unfoldable pub value_after : ℕ → List ℕ → ℕ
-value_after a [] = a
-value_after a (d ∷ ds) = value_after (a * 10 + d) ds
+abbrev pub value_after : ℕ → List ℕ → ℕ
+value_after a ds = fold (λ n d. n * 10 + d) a ds
 
 -- one to m digits
 pub record Digits (m : ℕ) (ds : List ℕ) : Type 0 where
