@@ -1,9 +1,9 @@
 -- The numbers of a script are digits, and its lines are few. Assumes nothing.
-use Rattle.std.proofs.Common.{◌≡◌, ℕ, zero, suc, ◌+◌, ◌<◌, ◌≤◌, true, cond, ◌&&◌, eqb, ltb, leb, List, [], ◌∷◌, length, get_or, Some, None, Ok, Err, vec_items, vec_len, Option, Result, Vec, sym, refl, ap, ◌∙◌, subst, arith, lit≤}
+use Rattle.std.proofs.Common.{◌≡◌, ℕ, zero, suc, ◌+◌, ◌-◌, ◌*◌, ◌<◌, ◌≤◌, true, cond, ◌&&◌, ltb, leb, List, [], ◌∷◌, length, get_or, Some, None, Ok, Err, vec_items, vec_len, Option, Result, Vec, sym, refl, ap, ◌∙◌, subst, arith}
 use Rattle.std.specs.Char.{is_ascii_digit}
 use Rattle.std.specs.declared.alloc.Global.{Global}
 use Rattle.std.proofs.lemmas.List.{length-map}
-use Rattle.std.proofs.lemmas.Bool.{and_parts, leb-true, ltb-true, ltb-false, or_parts, eqb-true, cond_both}
+use Rattle.std.proofs.lemmas.Bool.{and_parts, leb-true, ltb-true, ltb-false, or_parts, cond_both}
 use Rattle.faults.proofs.Passed.{passed}
 use Rattle.text.specs.declared.fault.LineFault.{LineFault}
 use Rattle.text.specs.declared.fault.LineFault.TheVariants.{NoDigit, WrongCount, NoEnd}
@@ -13,36 +13,24 @@ use Rattle.text.specs.Tables.{lists, number_at}
 use Rattle.text.specs.Scripts.{lines_before, too_long, whole_lines}
 
 -- a digit is a byte from 48 to 57
-pub digit_range : (b : ℕ) → is_ascii_digit b ≡ true → (48 ≤ b) × (b ≤ 57)
+digit_range : (b : ℕ) → is_ascii_digit b ≡ true → (48 ≤ b) × (b ≤ 57)
 digit_range b e = let p = and_parts (leb 48 b) (leb b 57) e in (leb-true 48 b p.0, leb-true b 57 p.1)
 
--- what a field that was read is
-pub record Field (m n : ℕ) (f : List ℕ) : Type 0 where
-  pub some : 0 < length f
-  pub few : length f ≤ m
-  pub digits : are_digits f ≡ true
-  pub value : n ≡ number_after 0 f
+one_digit : (f : List ℕ) → 0 < length f → length f ≤ 1 → are_digits f ≡ true → (number_after 0 f ≤ 9) × (f ≡ (48 + number_after 0 f) ∷ [])
+one_digit [] s h e = absurd (omega arith)
+one_digit (b ∷ []) s h e = let r = digit_range b (and_parts (is_ascii_digit b) true e).0 in let same : b ≡ 48 + (0 * 10 + (b - 48)) = omega arith in (omega arith, ap (λ x. x ∷ []) same)
+one_digit (b ∷ (c ∷ bs)) s h e = absurd (omega arith)
 
-pub field_is : (m k n : ℕ) (f : List ℕ) → field_answer m k f ≡ Ok n → Field m n f
-field_is m k n f h =
+-- a digit that was read, and the byte that it was read from
+pub digit_read : (k n : ℕ) (f : List ℕ) → field_answer 1 k f ≡ Ok n → (n ≤ 9) × (f ≡ (48 + n) ∷ [])
+digit_read k n f h =
     let number : Result ℕ LineFault = Ok (number_after 0 f) in
-    let p = passed (begins f) n (cond (leb (length f) m && are_digits f) number (Err (NoEnd k))) (NoDigit k) (sym h) in
-    let q = passed (leb (length f) m && are_digits f) n number (NoEnd k) p.1 in
-    let t = and_parts (leb (length f) m) (are_digits f) q.0 in
-    record {
-      some = ltb-true 0 (length f) (and_parts (ltb 0 (length f)) (is_ascii_digit (get_or f 0 0)) p.0).0;
-      few = leb-true (length f) m t.0;
-      digits = t.1;
-      value = let e = q.1 in cc;
-    }
-
-one_digit : (f : List ℕ) → length f ≤ 1 → are_digits f ≡ true → number_after 0 f ≤ 9
-one_digit [] h e = lit≤ tt
-one_digit (b ∷ []) h e = let r = digit_range b (and_parts _ _ e).0 in omega arith
-one_digit (b ∷ (c ∷ bs)) h e = absurd (omega arith)
-
-digit_read : (k n : ℕ) (f : List ℕ) → field_answer 1 k f ≡ Ok n → n ≤ 9
-digit_read k n f h = let field = field_is 1 k n f h in subst (λ m. m ≤ 9) (sym field.value) (one_digit f field.few field.digits)
+    let p = passed (begins f) n (cond (leb (length f) 1 && are_digits f) number (Err (NoEnd k))) (NoDigit k) (sym h) in
+    let q = passed (leb (length f) 1 && are_digits f) n number (NoEnd k) p.1 in
+    let t = and_parts (leb (length f) 1) (are_digits f) q.0 in
+    let some = ltb-true 0 (length f) (and_parts (ltb 0 (length f)) (is_ascii_digit (get_or f 0 0)) p.0).0 in
+    let same : n ≡ number_after 0 f = let e = q.1 in cc in
+    rw same (one_digit f some (leb-true (length f) 1 t.0) t.1)
 
 -- numbers that were read: the first, and then the others
 pub parts : (r : Result ℕ LineFault) (s : Result (List ℕ) LineFault) (ns : List ℕ) → first_then r s ≡ Ok ns
@@ -56,7 +44,7 @@ unfolding numbers_from
 numbers_read k [] ns e j = let none : ns ≡ [] = cc in subst (λ l. get_or l j 0 ≤ 9) (sym none) (omega arith)
 numbers_read k (f ∷ fs) ns e j =
     let p = parts (field_answer 1 k f) (numbers_from 1 (k + 1) fs) ns e in
-    subst (λ l. get_or l j 0 ≤ 9) (sym p.4) (each p.0 p.1 (digit_read k p.0 f p.2) (numbers_read (k + 1) fs p.1 p.3) j)
+    subst (λ l. get_or l j 0 ≤ 9) (sym p.4) (each p.0 p.1 (digit_read k p.0 f p.2).0 (numbers_read (k + 1) fs p.1 p.3) j)
   where
     each : (n : ℕ) (ms : List ℕ) → n ≤ 9 → ((i : ℕ) → get_or ms i 0 ≤ 9) → (i : ℕ) → get_or (n ∷ ms) i 0 ≤ 9
     each n ms a b zero = a
@@ -102,11 +90,3 @@ module _ (text : List ℕ) (lines : Vec (Vec ℕ Global) Global) (held : lists (
 
   pub held_digits : (i k : ℕ) → number_at (lists (vec_items lines)) i k ≤ 9
   held_digits i k = subst (λ (ls : List (List ℕ)). number_at ls i k ≤ 9) (sym held) (script_digits text i k)
-
--- a line of a known width has so many numbers
-pub wide : (w : ℕ) (r : Result (List ℕ) LineFault) (ns : List ℕ) → counted (Some w) r ≡ Ok ns → length ns ≡ w
-wide w (Ok ms) ns e =
-    let p = passed (eqb (length ms) w) ns (Ok ms) (WrongCount (length ms)) (sym e) in
-    let same : ns ≡ ms = let q = p.1 in cc in
-    ap length same ∙ eqb-true (length ms) w p.0
-wide w (Err d) ns e = cc

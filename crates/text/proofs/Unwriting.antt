@@ -1,6 +1,5 @@
 -- Nothing else is read as lines than those lines written out. Assumes nothing.
-use Rattle.std.proofs.Common.{◌≡◌, ℕ, ◌+◌, ◌-◌, ◌*◌, ◌<◌, ◌≤◌, Bool, true, false, cond, ◌&&◌, eqb, ◌⊎◌, List, [], ◌∷◌, ◌++◌, map, length, Some, None, Ok, Err, Option, Result, sym, refl, ap, ◌∙◌, subst, ap₂, inl, inr, ⊎_elim, arith}
-use Rattle.std.specs.Char.{is_ascii_digit}
+use Rattle.std.proofs.Common.{◌≡◌, ℕ, ◌+◌, ◌<◌, Bool, true, false, cond, ◌&&◌, eqb, ◌⊎◌, List, [], ◌∷◌, ◌++◌, map, length, Some, None, Ok, Err, Option, Result, sym, refl, ap, ◌∙◌, subst, ap₂, inl, inr, ⊎_elim, arith}
 use Rattle.std.specs.List.{onto_first, join_with_byte}
 use Rattle.std.proofs.lemmas.List.Splits.{join_with_byte-slice_split}
 use Rattle.std.proofs.lemmas.Bool.{cases_Bool, and_parts, cond-true, cond-false, cond_both, eqb-true}
@@ -8,30 +7,22 @@ use Rattle.text.specs.declared.fault.LineFault.{LineFault}
 use Rattle.text.specs.declared.fault.ScriptFault.{ScriptFault}
 use Rattle.text.specs.declared.fault.ScriptFault.TheVariants.{Line, TooLong}
 use Rattle.text.specs.Cuts.{lines_of, fields_of}
-use Rattle.text.specs.Lines.{are_digits, number_after, field_answer, numbers_from, line_answer}
+use Rattle.text.specs.Lines.{field_answer, numbers_from, line_answer}
 use Rattle.text.specs.Scripts.{lines_before, first_fault, too_long, fault_of, whole_lines, unless}
 use Rattle.text.specs.Written.{digits_text, script_line, script_text, open_script_text, ScriptsWritten}
-use Rattle.text.proofs.Bounds.{digit_range, field_is, parts, read_whole}
+use Rattle.text.proofs.Bounds.{digit_read, parts, read_whole}
 
 onto_some : (b : ℕ) (ps : List (List ℕ)) → 0 < length (onto_first b ps)
 onto_some b [] = omega arith
 onto_some b (p ∷ ps) = omega arith
 
--- a digit that was read is the byte of that digit
-one_byte : (f : List ℕ) → 0 < length f → length f ≤ 1 → are_digits f ≡ true → f ≡ digits_text (number_after 0 f ∷ [])
-one_byte [] s h e = absurd (omega arith)
-one_byte (b ∷ []) s h e = let r = digit_range b (and_parts (is_ascii_digit b) true e).0 in let same : b ≡ 48 + (0 * 10 + (b - 48)) = omega arith in ap (λ x. x ∷ []) same
-one_byte (b ∷ (c ∷ bs)) s h e = absurd (omega arith)
-
-digit_written : (k n : ℕ) (f : List ℕ) → field_answer 1 k f ≡ Ok n → f ≡ digits_text (n ∷ [])
-digit_written k n f h = let field = field_is 1 k n f h in one_byte f field.some field.few field.digits ∙ ap (λ m. digits_text (m ∷ [])) (sym field.value)
-
+-- what was read is the numbers written out
 numbers_written : (k : ℕ) (fs : List (List ℕ)) (ns : List ℕ) → numbers_from 1 k fs ≡ Ok ns → fs ≡ map digits_text (map (λ n. n ∷ []) ns)
 unfolding numbers_from
 numbers_written k [] ns e = let none : ns ≡ [] = cc in sym (ap (λ ms. map digits_text (map (λ n. n ∷ []) ms)) none)
 numbers_written k (f ∷ fs) ns e =
     let p = parts (field_answer 1 k f) (numbers_from 1 (k + 1) fs) ns e in
-    ap₂ (λ (x : List ℕ) (xs : List (List ℕ)). x ∷ xs) (digit_written k p.0 f p.2) (numbers_written (k + 1) fs p.1 p.3) ∙ sym (ap (λ ms. map digits_text (map (λ n. n ∷ []) ms)) p.4)
+    ap₂ (λ (x : List ℕ) (xs : List (List ℕ)). x ∷ xs) (digit_read k p.0 f p.2).1 (numbers_written (k + 1) fs p.1 p.3) ∙ sym (ap (λ ms. map digits_text (map (λ n. n ∷ []) ms)) p.4)
 
 line_written : (w : Option ℕ) (l ns : List ℕ) → line_answer 1 w l ≡ Ok ns → l ≡ script_line ns
 line_written w l ns h = sym (join_with_byte-slice_split 44 l) ∙ ap (join_with_byte 44) (numbers_written 1 (fields_of l) ns (read_whole w (numbers_from 1 1 (fields_of l)) ns h))
