@@ -35,6 +35,6 @@ abbrev pub at_line : ℕ → Unread → ScriptFault
 at_line n (Faulty e) = script.Line n e
 at_line n (NoMemory _) = script.NoMemory
 
-abbrev pub alone : Unread → SettingsFault
-alone (Faulty e) = settings.Line e
-alone (NoMemory _) = settings.NoMemory
+abbrev pub in_settings : Unread → SettingsFault
+in_settings (Faulty e) = settings.Line e
+in_settings (NoMemory _) = settings.NoMemory

@@ -1,6 +1,6 @@
 // The faults of a script and of settings. Lines and fields count from 1.
 ghost use Rattle.std.specs.Prelude.{◌≡◌, alloc_error};
-ghost use Rattle.text.specs.Faults.{line_refusal, script_refusal, settings_refusal, at_line, alone};
+ghost use Rattle.text.specs.Faults.{line_refusal, script_refusal, settings_refusal, at_line, in_settings};
 ghost use Rattle.text.specs.declared.fault.SettingsFault.TheVariants.{Line as SettingsLine, NoMemory as SettingsNoMemory};
 ghost use Rattle.text.specs.declared.fault.ScriptFault.TheVariants.{NoMemory as ScriptNoMemory};
 ghost use Rattle.text.specs.declared.fault.Unread.TheVariants.{Faulty, NoMemory as UnreadNoMemory};
@@ -121,7 +121,7 @@ impl From<LineFault> for SettingsFault {
 }
 
 impl From<Unread> for SettingsFault {
-    ghost from_gives = { λ e r. r ≡ alone e };
+    ghost from_gives = { λ e r. r ≡ in_settings e };
 
     fn from(unread: Unread) -> SettingsFault {
         match unread {

@@ -15,33 +15,33 @@ fn is_too_long(text: &[u8]) -> bool
     text.len() > 16384 || Lines::of(text).count() > 1024
 }
 
-// Reads the lines of a text into `read`, up to the first fault.
-fn read_lines(heap: Global, text: &[u8], read: &mut Vec<Vec<u16>>) -> Result<(), ScriptFault>
-    requires { read.old.items ≡ [] }
-    ensures { ReadLines text.now read.new.items result }
+// Reads the lines of a text into `lines`, up to the first fault.
+fn read_lines(heap: Global, text: &[u8], lines: &mut Vec<Vec<u16>>) -> Result<(), ScriptFault>
+    requires { lines.old.items ≡ [] }
+    ensures { ReadLines text.now lines.new.items result }
 {
     let mut width = None;
     for line in Lines::of(text) {
         let form = LineForm { digits: 1, width };
-        let number = read.len() + 1;
+        let number = lines.len() + 1;
         let numbers = form
             .read(heap, line)
             .map_err(|unread| unread.at_line(number))?;
         width = Some(numbers.len());
-        read.push(numbers).map_err(AllocError::from)?;
+        lines.push(numbers).map_err(AllocError::from)?;
     }
     Ok(())
 }
 
 // The same, but nothing is read of a text that is too long.
-fn read_text(heap: Global, text: &[u8], read: &mut Vec<Vec<u16>>) -> Result<(), ScriptFault>
-    requires { read.old.items ≡ [] }
-    ensures { ReadText text.now read.new.items result }
+fn read_text(heap: Global, text: &[u8], lines: &mut Vec<Vec<u16>>) -> Result<(), ScriptFault>
+    requires { lines.old.items ≡ [] }
+    ensures { ReadText text.now lines.new.items result }
 {
     if is_too_long(text) {
         return Err(ScriptFault::TooLong);
     }
-    read_lines(heap, text, read)
+    read_lines(heap, text, lines)
 }
 
 impl Script {

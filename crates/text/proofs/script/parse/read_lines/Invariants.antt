@@ -5,4 +5,4 @@ use Rattle.text.proofs.Turns.{Sofar}
 use Rattle.text.proofs.script.parse.read_lines.Given as goal
 
 abbrev pub invariant-loop-line : goal.invariant-loop-line
-invariant-loop-line l = Sofar (lines_of l.text) (lists (vec_items l.read)) l.width (vec_len l.read + 1) (lines_of l.line-iterator.rest.now)
+invariant-loop-line l = Sofar (lines_of l.text) (lists (vec_items l.lines)) l.width (vec_len l.lines + 1) (lines_of l.line-iterator.rest.now)
