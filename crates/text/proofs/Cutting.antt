@@ -26,7 +26,7 @@ pair_first [] h = absurd (omega arith)
 pair_first (b ∷ []) h = absurd (omega arith)
 pair_first (b ∷ (c ∷ bs)) h = refl
 
--- are what `windows(2)` gives
+-- `windows(2)` gives them
 pub pairs_yielded : (s : Windows ℕ) (t : List ℕ) → windows_rest s ≡ t → windows_size s ≡ 2 → YieldsList windows_steps (λ x. x.now) s (pairs t)
 pairs_yielded s t e two =
     subst (λ l. YieldsList windows_steps (λ x. x.now) s (pairs l)) e (YieldsList-from_shown_while windows_steps (λ x. x.now) (λ u. pairs (windows_rest u)) (λ u. windows_size u ≡ 2) ends goes_on s two)
@@ -75,7 +75,7 @@ pub cut_at : (t : List ℕ) → 0 < length t → (r : Option ℕ)
 cut_at t h None none = line_alone t h (λ k l. none k [] (omega arith) l)
 cut_at t h (Some i) first = let two : i + 2 ≡ suc (suc i) = omega arith in rw two (line_ended t i first.0 (first.1 []) (λ k l. first.2 k [] (omega arith) l))
 
--- no line is empty and without an end, so there are no more lines than bytes
+-- a byte more makes at most one line more, so there are no more lines than bytes
 first_line : (b : ℕ) (ls : List (List ℕ)) → length (onto_first b ls) ≤ length ls + 1
 first_line b [] = omega arith
 first_line b (l ∷ ls) = omega arith

@@ -42,18 +42,18 @@ script_answer text = unless (fault_of text) (whole_lines text)
 abbrev pub script_lines : Script → List (List ℕ)
 script_lines s = lists (vec_items s.lines)
 
--- lines were read up to a fault, if there is one; besides, memory may be wanting
+-- these lines were read, up to this fault, if there is one; besides, memory may be wanting
 abbrev pub ReadTo : Option ScriptFault → List (List ℕ) → List (Vec ℕ Global) → Result (Unit {0}) ScriptFault → Type 0
 ReadTo fault lines read (Ok _) = (fault ≡ None) × (lists read ≡ lines)
 ReadTo fault lines read (Err (Line n e)) = (fault ≡ Some (Line n e)) × (lists read ≡ lines)
 ReadTo fault lines read (Err TooLong) = (fault ≡ Some TooLong) × (lists read ≡ lines)
 ReadTo fault lines read (Err NoMemory) = Unit {0}
 
--- whatever the text's length
+-- the lines of a text were read, whatever its length
 abbrev pub ReadLines : List ℕ → List (Vec ℕ Global) → Result (Unit {0}) ScriptFault → Type 0
 ReadLines text = ReadTo (first_fault None 1 (lines_of text)) (lines_before None (lines_of text))
 
--- nothing of a text that is too long
+-- the same, but nothing of a text that is too long
 abbrev pub ReadText : List ℕ → List (Vec ℕ Global) → Result (Unit {0}) ScriptFault → Type 0
 ReadText text = ReadTo (fault_of text) (whole_lines text)
 
