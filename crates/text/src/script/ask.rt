@@ -23,6 +23,7 @@ impl Script {
             .and_then(|numbers| numbers.get(field))
             .copied()
             .unwrap_or(0);
+        // A cast, since `try_from` would have a case that never comes: the numbers are digits.
         digit as u8
     }
 }
