@@ -1,5 +1,5 @@
 -- Slots as a link carries them: how many, how many are left, and the frame of the last one. Assumes nothing.
-use Rattle.std.specs.Prelude.{◌≡◌, ℕ, ◌+◌, List, take, Ok, Err, Result}
+use Rattle.std.specs.Prelude.{◌≡◌, ℕ, ◌+◌, List, Ok, Err, Result}
 use Rattle.link.specs.declared.fault.LinkFault.{LinkFault}
 use Rattle.link.specs.declared.slots.Slots.{Slots}
 use Rattle.link.specs.Meanings.{Meaning}
@@ -7,7 +7,7 @@ use Rattle.link.specs.Calls.{send_answer}
 
 -- the current frame
 abbrev pub frame_of : Slots → List ℕ
-frame_of s = take s.len s.frame
+frame_of s = s.frame.items
 
 -- slots together with counts are a meaning
 abbrev pub with_counts : Slots → List ℕ → Meaning

@@ -1,9 +1,9 @@
 -- Slots with counts keep the laws of a link, if the counts do. Assumes nothing.
-use Rattle.std.specs.Prelude.{◌≡◌, ℕ, ◌-◌, ◌≤◌, List, map, length, take, ◌==◌, slice_index, refl}
-use Rattle.std.proofs.Common.{sym, ap, subst, inl, inr, arith}
+use Rattle.std.specs.Prelude.{◌≡◌, ℕ, ◌-◌, ◌≤◌, List, map, length, ◌==◌, slice_index, refl}
+use Rattle.std.proofs.Common.{sym, subst, inl, inr, arith}
 use Rattle.std.specs.List.{range_with_len}
 use Rattle.std.proofs.lemmas.List.FromFn.{length-map-range_with_len, get_or-map-range_with_len}
-use Rattle.std.proofs.lemmas.List.{length-take-le, get_or_past, get_or-replicate}
+use Rattle.std.proofs.lemmas.List.{get_or_past, get_or-replicate}
 use Rattle.std.proofs.lemmas.Bool.{cases_lt, cond_both, cond-true, eq-eqb}
 use Rattle.text.specs.Scripts.{script_lines}
 use Rattle.text.specs.Tables.{number_at}
@@ -16,10 +16,10 @@ use Rattle.link.specs.Counts.{line_counts}
 pub slots_lawful : (s : Slots) (counts : List ℕ) → length counts ≡ 8 → ((i : ℕ) → slice_index counts i ≤ 9) → (s.carried ≡ 0 → counts ≡ no_copies) → Lawful (with_counts s counts)
 slots_lawful s counts eight few none = record {
   slots = s.within;
-  short = let e = length-take-le s.len s.frame (omega (arith, s.short, s.room)) in omega (arith, s.short);
+  short = s.short;
   eight = eight;
   few = few;
-  no_frame = λ z. ap (λ n. take n s.frame) (s.fresh z);
+  no_frame = s.fresh;
   no_counts = none;
 }
 

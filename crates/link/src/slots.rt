@@ -1,5 +1,7 @@
 // The slots of a link that makes its own counts: how many were carried, how many are left, and the frame of the last one.
-ghost use Rattle.std.specs.Prelude.{◌≡◌, ◌+◌, ◌≤◌, length};
+ghost use Rattle.std.specs.Prelude.{◌≡◌, ◌+◌, ◌≤◌, [], length};
+
+use arrayvec::ArrayVec;
 
 mod carry;
 
@@ -7,10 +9,8 @@ mod carry;
 pub struct Slots {
     pub(crate) carried: u16,
     pub(crate) left: u16,
-    frame: [u16; 64],
-    len: usize,
+    frame: ArrayVec<u16, 64>,
     ghost within: { carried + left ≤ 65535 },
-    ghost room: { length frame ≡ 64 },
-    ghost short: { len ≤ 64 },
-    ghost fresh: { carried ≡ 0 → len ≡ 0 },
+    ghost short: { length frame.items ≤ 64 },
+    ghost fresh: { carried ≡ 0 → frame.items ≡ [] },
 }

@@ -5,6 +5,7 @@ ghost use Rattle.link.specs.Carried.{frame_of, SlotSent};
 
 use super::super::fault::LinkFault;
 use super::Slots;
+use arrayvec::ArrayVec;
 
 impl Slots {
     // So many slots, and none carried.
@@ -16,8 +17,7 @@ impl Slots {
         Slots {
             carried: 0,
             left,
-            frame: [0; 64],
-            len: 0,
+            frame: ArrayVec::new(),
         }
     }
 
@@ -25,14 +25,14 @@ impl Slots {
     pub(crate) fn send(&mut self, frame: &[u16]) -> Result<(), LinkFault>
         ensures { SlotSent self.old frame.now result self.new }
     {
-        if frame.is_empty() || frame.len() > 64 {
+        if frame.is_empty() || frame.len() > self.frame.capacity() {
             return Err(LinkFault::WrongLength);
         }
         if self.left == 0 {
             return Err(LinkFault::NoSlotLeft);
         }
-        self.frame[0..frame.len()].copy_from_slice(frame);
-        self.len = frame.len();
+        self.frame.clear();
+        self.frame.try_extend_from_slice(frame).unwrap();
         self.left -= 1;
         self.carried += 1;
         Ok(())
@@ -46,13 +46,13 @@ impl Slots {
     ) -> Result<(), LinkFault>
         ensures { FrameRead (frame_of self.now) copies buffer.old result buffer.new }
     {
-        if buffer.len() != self.len {
+        if buffer.len() != self.frame.len() {
             return Err(LinkFault::WrongLength);
         }
         if copies? == 0 {
             return Err(LinkFault::NoCopy);
         }
-        buffer.copy_from_slice(&self.frame[0..self.len]);
+        buffer.copy_from_slice(&self.frame);
         Ok(())
     }
 }
