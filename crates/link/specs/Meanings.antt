@@ -8,13 +8,13 @@ pub record Meaning : Type 0 where
   pub frame : List ℕ
   pub counts : List ℕ
 
--- the meaning of a link, from the four members by which it says it
-abbrev pub meaning : {L : Type 0} → (L → ℕ) → (L → ℕ) → (L → List ℕ) → (L → List ℕ) → L → Meaning
-meaning carried left frame counts l = record { carried = carried l; left = left l; frame = frame l; counts = counts l }
-
 -- eight counts of 0
 abbrev pub no_copies : List ℕ
 no_copies = replicate 8 0
+
+-- before the first send: so many slots are left, the frame is empty and every count is 0
+abbrev pub unused : ℕ → Meaning
+unused left = record { carried = 0; left = left; frame = []; counts = no_copies }
 
 -- The laws.
 pub record Lawful (m : Meaning) : Type 0 where

@@ -1,23 +1,18 @@
 -- The scripted link. Assumes nothing.
-use Rattle.std.specs.Prelude.{◌≡◌, ℕ, List, [], length}
+use Rattle.std.specs.Prelude.{◌≡◌, ℕ, List, length}
 use Rattle.text.specs.Scripts.{script_lines}
 use Rattle.link.specs.declared.scripted.Scripted.{Scripted}
-use Rattle.link.specs.Carried.{frame_of}
+use Rattle.link.specs.Meanings.{Meaning, unused}
+use Rattle.link.specs.Carried.{with_counts}
 use Rattle.link.specs.Counts.{line_counts}
-
--- its slots and its frame are those that it keeps
-abbrev pub scripted_carried : Scripted → ℕ
-scripted_carried s = s.slots.carried
-
-abbrev pub scripted_left : Scripted → ℕ
-scripted_left s = s.slots.left
-
-abbrev pub scripted_frame : Scripted → List ℕ
-scripted_frame s = frame_of s.slots
 
 -- the counts of the line for the last slot
 abbrev pub scripted_counts : Scripted → List ℕ
 scripted_counts s = line_counts (script_lines s.script) s.slots.carried
+
+-- its slots and its frame are those that it keeps
+abbrev pub scripted_meaning : Scripted → Meaning
+scripted_meaning s = with_counts s.slots (scripted_counts s)
 
 -- over a send the script stays, so each slot has the counts of its own line
 abbrev pub ScriptedGoes : Scripted → List ℕ → Scripted → Type 0
@@ -26,6 +21,4 @@ ScriptedGoes s frame t = script_lines t.script ≡ script_lines s.script
 -- a scripted link before its first slot: as many slots as lines
 pub record ScriptedNew (lines : List (List ℕ)) (s : Scripted) : Type 0 where
   pub script_is : script_lines s.script ≡ lines
-  pub none_carried : scripted_carried s ≡ 0
-  pub all_left : scripted_left s ≡ length lines
-  pub no_frame : scripted_frame s ≡ []
+  pub meaning_is : scripted_meaning s ≡ unused (length lines)

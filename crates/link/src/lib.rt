@@ -3,7 +3,7 @@
 
 ghost use Rattle.std.specs.Prelude.{◌≡◌, ℕ, List, OnOk};
 ghost use Rattle.link.specs.Calls.{Sent, relay_answer, copies_answer, ReadInto};
-ghost use Rattle.link.specs.Meanings.{Lawful, meaning};
+ghost use Rattle.link.specs.Meanings.{Meaning, Lawful};
 
 use fault::LinkFault;
 
@@ -16,38 +16,32 @@ mod slots;
 // A lawful link. Its meaning is the slots carried, the slots left, the current frame and the counts of copies; `goes` says
 // how the whole link goes over an accepted send, and with it which counts come.
 pub trait Link {
-    ghost carried: { Self → ℕ };
-
-    ghost left: { Self → ℕ };
-
-    ghost current: { Self → List ℕ };
-
-    ghost counts: { Self → List ℕ };
+    ghost meaning: { Self → Meaning };
 
     ghost goes: { Self → List ℕ → Self → Type 0 };
 
     // How many slots were carried.
     fn slots_carried(&self) -> u16
-        ensures { result ≡ carried self.now };
+        ensures { result ≡ (meaning self.now).carried };
 
     // How many slots are left.
     fn slots_left(&self) -> u16
-        ensures { result ≡ left self.now };
+        ensures { result ≡ (meaning self.now).left };
 
     // Sends a frame in the next slot.
     fn send(&mut self, frame: &[u16]) -> Result<(), LinkFault>
-        ensures sent { Sent (meaning carried left current counts self.old) frame.now result (meaning carried left current counts self.new) }
+        ensures sent { Sent (meaning self.old) frame.now result (meaning self.new) }
         ensures own { OnOk result (goes self.old frame.now self.new) };
 
     // How many copies of the current frame reached a relay.
     fn copies(&self, relay: usize) -> Result<u8, LinkFault>
-        ensures { result ≡ copies_answer (counts self.now) relay };
+        ensures { result ≡ copies_answer (meaning self.now).counts relay };
 
     // Writes the current frame into the buffer, for a relay that a copy reached.
     fn read(&self, relay: usize, buffer: &mut [u16]) -> Result<(), LinkFault>
-        ensures { ReadInto (meaning carried left current counts self.now) relay buffer.old result buffer.new };
+        ensures { ReadInto (meaning self.now) relay buffer.old result buffer.new };
 
-    ghost lawful: { (l : Self) → Lawful (meaning carried left current counts l) };
+    ghost lawful: { (l : Self) → Lawful (meaning l) };
 }
 
 // The place of a relay, counted from 0.

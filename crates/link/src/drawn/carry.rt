@@ -1,5 +1,5 @@
 // A drawn link made, and its calls.
-ghost use Rattle.link.specs.Drawn.{drawn_carried, drawn_left, drawn_frame, counts_of, DrawnGoes, DrawnNew};
+ghost use Rattle.link.specs.Drawn.{drawn_meaning, DrawnGoes, DrawnNew};
 ghost use Rattle.link.specs.Laws.{slots_lawful, single_few};
 
 use super::super::fault::LinkFault;
@@ -23,13 +23,7 @@ impl Drawn {
 }
 
 impl Link for Drawn {
-    ghost carried = { drawn_carried };
-
-    ghost left = { drawn_left };
-
-    ghost current = { drawn_frame };
-
-    ghost counts = { counts_of };
+    ghost meaning = { drawn_meaning };
 
     ghost goes = { DrawnGoes };
 

@@ -1,9 +1,8 @@
 // A layer made, and its calls.
 ghost use Rattle.std.specs.Prelude.{◌≡◌, ◌<◌, true, slice_index};
 ghost use Rattle.link.specs.Calls.{is_relay};
-ghost use Rattle.link.specs.Counts.{erases, erased_counts};
-ghost use Rattle.link.specs.Erased.{erased_for, nothing_to_read};
-ghost use Rattle.link.specs.Meanings.{meaning};
+ghost use Rattle.link.specs.Counts.{erases};
+ghost use Rattle.link.specs.Erased.{erased, erased_for, nothing_to_read};
 ghost use Rattle.link.specs.Erasures.{erased_lawful};
 
 use super::super::fault::LinkFault;
@@ -32,7 +31,7 @@ impl<L: Link> Erasing<L> {
 
     // Whether the copies for a relay are erased.
     fn erased(&self, relay: usize) -> bool
-        ensures { result ≡ erased_for self.now.periods.of (L.Link.carried self.now.lower) relay }
+        ensures { result ≡ erased_for self.now.periods.of (L.meaning self.now.lower).carried relay }
     {
         match relay_index(relay) {
             Ok(place) => self.periods.erase(place, self.lower.slots_carried()),
@@ -43,7 +42,7 @@ impl<L: Link> Erasing<L> {
     // Why a relay whose copies are erased is refused: the link below tells whether the buffer has the frame's length.
     fn refusal(&self, relay: usize, len: usize) -> LinkFault
         requires { is_relay relay ≡ true }
-        ensures { result ≡ nothing_to_read (L.Link.current self.now.lower) len }
+        ensures { result ≡ nothing_to_read (L.meaning self.now.lower).frame len }
     {
         if len > 64 {
             return LinkFault::WrongLength;
@@ -57,18 +56,12 @@ impl<L: Link> Erasing<L> {
 }
 
 impl<L: Link> Link for Erasing<L> {
-    ghost carried = { λ s. L.Link.carried s.lower };
-
-    ghost left = { λ s. L.Link.left s.lower };
-
-    ghost current = { λ s. L.Link.current s.lower };
-
-    ghost counts = { λ s. erased_counts s.periods.of (L.Link.carried s.lower) (L.Link.counts s.lower) };
+    ghost meaning = { λ s. erased s.periods.of (L.meaning s.lower) };
 
     // the periods stay, and the link below goes as it goes
-    ghost goes = { λ s frame t. (t.periods ≡ s.periods) × L.Link.goes s.lower frame t.lower };
+    ghost goes = { λ s frame t. (t.periods ≡ s.periods) × L.goes s.lower frame t.lower };
 
-    ghost lawful = { λ s. erased_lawful s.periods.of (meaning L.Link.carried L.Link.left L.Link.current L.Link.counts s.lower) (L.Link.lawful s.lower) };
+    ghost lawful = { λ s. erased_lawful s.periods.of (L.meaning s.lower) (L.lawful s.lower) };
 
     fn slots_carried(&self) -> u16 {
         self.lower.slots_carried()

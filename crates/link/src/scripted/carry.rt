@@ -1,7 +1,7 @@
 // A scripted link made, and its calls.
 ghost use Rattle.std.specs.Prelude.{◌≡◌, ◌<◌, IfOk, slice_index};
 ghost use Rattle.text.specs.Scripts.{script_lines, whole_lines};
-ghost use Rattle.link.specs.Scripted.{scripted_carried, scripted_left, scripted_frame, scripted_counts, ScriptedGoes, ScriptedNew};
+ghost use Rattle.link.specs.Scripted.{scripted_counts, scripted_meaning, ScriptedGoes, ScriptedNew};
 ghost use Rattle.link.specs.Laws.{slots_lawful, script_eight, script_few, script_none};
 
 use super::super::fault::LinkFault;
@@ -41,13 +41,7 @@ impl Scripted {
 }
 
 impl Link for Scripted {
-    ghost carried = { scripted_carried };
-
-    ghost left = { scripted_left };
-
-    ghost current = { scripted_frame };
-
-    ghost counts = { scripted_counts };
+    ghost meaning = { scripted_meaning };
 
     ghost goes = { ScriptedGoes };
 
