@@ -1,15 +1,15 @@
 // Sends frames over a scripted link, a drawn link and piles of layers over them, and prints the counts slot by slot.
 #![tactic(auto)]
 
-ghost use Rattle.std.specs.Prelude.{◌≡◌, IfOk};
-ghost use Rattle.link_tests.specs.Piles.{OverDrawn, OverScripted};
+ghost use Rattle.std.specs.Prelude.{◌≡◌, ◌<◌, IfOk};
+ghost use Rattle.link_tests.specs.Piles.{Over, OverDrawn, OverScripted};
 
 use link::Link;
 use link::drawn::Drawn;
 use link::erasing::{Erasing, Periods};
 use link::fault::LinkFault;
 use link::scripted::Scripted;
-use std::io;
+use std::{array, io};
 
 #[cfg(test)]
 mod tests;
@@ -26,32 +26,38 @@ const OUTER: Periods = Periods {
 
 // The counts of all eight relays, as any link answers them.
 fn all_copies<L: Link>(link: &L) -> [u8; 8]
-    ensures { result ≡ L.counts link.now }
+    ensures { result ≡ (L.meaning link.now).counts }
 {
-    let mut all = [0; 8];
-    for i in 0..8 {
-        all[i] = link.copies(i + 1).unwrap();
-    }
-    all
+    array::from_fn(
+        |place| -> u8
+            requires { place < 8 }
+        { link.copies(place + 1).unwrap() },
+    )
 }
 
-// Sends a frame over two layers over a drawn link: the counts are those drawn, less what the layers erase.
-fn send_over_drawn(pile: &mut Erasing<Erasing<Drawn>>, frame: &[u16]) -> Result<[u8; 8], LinkFault>
-    ensures { IfOk result (OverDrawn pile.old) }
+// Sends a frame over two layers over any link: the counts are those that come to the link, less what the layers erase.
+fn send_over<L: Link>(pile: &mut Erasing<Erasing<L>>, frame: &[u16]) -> Result<[u8; 8], LinkFault>
+    ensures { IfOk result (Over L.meaning L.goes pile.old frame.now pile.new) }
 {
     pile.send(frame)?;
     Ok(all_copies(pile))
 }
 
-// The same over a scripted link: the counts of the script's line, less what the layers erase.
+// Over a drawn link the counts that come are those drawn.
+fn send_over_drawn(pile: &mut Erasing<Erasing<Drawn>>, frame: &[u16]) -> Result<[u8; 8], LinkFault>
+    ensures { IfOk result (OverDrawn pile.old) }
+{
+    send_over(pile, frame)
+}
+
+// Over a scripted link they are those of the script's line.
 fn send_over_script(
     pile: &mut Erasing<Erasing<Scripted>>,
     frame: &[u16],
 ) -> Result<[u8; 8], LinkFault>
     ensures { IfOk result (OverScripted pile.old) }
 {
-    pile.send(frame)?;
-    Ok(all_copies(pile))
+    send_over(pile, frame)
 }
 
 // A line for each slot, up to so many, as long as the link has slots left.

@@ -5,67 +5,51 @@ use link::drawn::Drawn;
 use link::erasing::{Erasing, Periods};
 use link::fault::LinkFault;
 use link::scripted::Scripted;
-use std::alloc::Global;
-use std::process::Abort;
 use std::test::Fail;
 use text::script::Script;
 use text::settings::Settings;
 
-// What a script is refused by, if it is.
-fn script_refusal(heap: Global, text: &[u8]) -> Option<Refusal> {
-    match Script::parse(heap, text) {
-        Ok(_) => None,
-        Err(fault) => Some(fault.refusal()),
-    }
-}
+// A text at fault, and the number, the line and the field that it is refused by.
+type Faulty = (&'static [u8], u8, usize, usize);
 
-fn settings_refusal(heap: Global, text: &[u8]) -> Option<Refusal> {
-    match Settings::parse(heap, text) {
-        Ok(_) => None,
-        Err(fault) => Some(fault.refusal()),
-    }
-}
+const SCRIPTS: [Faulty; 12] = [
+    (b"1,0\r\n1", 22, 2, 1),
+    (b"1,0\r\n1,2,3\r\nx", 22, 2, 3),
+    (b"1,1,1,1,1,1,1,1,1", 22, 1, 9),
+    (b"1,1,1,1,1,1,1,1,x", 21, 1, 9),
+    (b"\r\n", 21, 1, 1),
+    (b"1\r\n\r\n", 21, 2, 1),
+    (b"1,,2", 21, 1, 2),
+    (b"1,", 21, 1, 2),
+    (b"12", 23, 1, 1),
+    (b"1\r2", 23, 1, 1),
+    (b"1\n2", 23, 1, 1),
+    (b"1,2\r", 23, 1, 2),
+];
 
-// Checks that a script is refused by this number at this line and field.
-fn refuse_script(
-    rt: &impl Abort,
-    heap: Global,
-    text: &[u8],
-    number: u8,
-    line: usize,
-    field: usize,
-) {
-    assert_eq!(rt;
-        script_refusal(heap, text),
-        Some(Refusal::in_text(Layer::Script, number, line, field))
-    );
-}
+const SETTINGS: [Faulty; 5] = [
+    (b"", 21, 1, 1),
+    (b"257,,3", 21, 1, 2),
+    (b"257,1", 22, 1, 2),
+    (b"257,1,3,4", 22, 1, 4),
+    (b"2570,1,3", 23, 1, 1),
+];
 
-fn refuse_settings(rt: &impl Abort, heap: Global, text: &[u8], number: u8, field: usize) {
-    assert_eq!(rt;
-        settings_refusal(heap, text),
-        Some(Refusal::in_text(Layer::Settings, number, 1, field))
-    );
+// What a text is refused by, if it is.
+fn refusal_of<T: Drop, E: Fault + Drop>(read: Result<T, E>) -> Option<Refusal> {
+    read.err().map(|fault| fault.refusal())
 }
 
 #[test]
 fn scripts(rt: HostRuntime) {
     let heap = rt.alloc();
-    assert_eq!(rt; script_refusal(heap, b""), None);
-    assert_eq!(rt; script_refusal(heap, b"1,0\r\n0,9"), None);
-    assert_eq!(rt; script_refusal(heap, b"1,0\r\n0,9\r\n"), None);
-    refuse_script(&rt, heap, b"1,0\r\n1", 22, 2, 1);
-    refuse_script(&rt, heap, b"1,0\r\n1,2,3\r\nx", 22, 2, 3);
-    refuse_script(&rt, heap, b"1,1,1,1,1,1,1,1,1", 22, 1, 9);
-    refuse_script(&rt, heap, b"1,1,1,1,1,1,1,1,x", 21, 1, 9);
-    refuse_script(&rt, heap, b"\r\n", 21, 1, 1);
-    refuse_script(&rt, heap, b"1\r\n\r\n", 21, 2, 1);
-    refuse_script(&rt, heap, b"1,,2", 21, 1, 2);
-    refuse_script(&rt, heap, b"1,", 21, 1, 2);
-    refuse_script(&rt, heap, b"12", 23, 1, 1);
-    refuse_script(&rt, heap, b"1\r2", 23, 1, 1);
-    refuse_script(&rt, heap, b"1\n2", 23, 1, 1);
-    refuse_script(&rt, heap, b"1,2\r", 23, 1, 2);
+    assert_eq!(rt; refusal_of(Script::parse(heap, b"")), None);
+    assert_eq!(rt; refusal_of(Script::parse(heap, b"1,0\r\n0,9")), None);
+    assert_eq!(rt; refusal_of(Script::parse(heap, b"1,0\r\n0,9\r\n")), None);
+    for (text, number, line, field) in SCRIPTS {
+        let told = Refusal::in_text(Layer::Script, number, line, field);
+        assert_eq!(rt; refusal_of(Script::parse(heap, text)), Some(told));
+    }
 }
 
 #[test]
@@ -73,7 +57,7 @@ fn long_scripts(rt: HostRuntime) -> Result<(), Fail> {
     let heap = rt.alloc();
     let long = vec![in heap; b'1'; 16385]?;
     assert_eq!(rt;
-        script_refusal(heap, long.as_slice()),
+        refusal_of(Script::parse(heap, long.as_slice())),
         Some(Refusal::plain(Layer::Script, 24))
     );
     assert_eq!(rt; Scripted::from_text(heap, long.as_slice())?.slots_left(), 0);
@@ -84,13 +68,15 @@ fn long_scripts(rt: HostRuntime) -> Result<(), Fail> {
 #[test]
 fn settings(rt: HostRuntime) {
     let heap = rt.alloc();
-    assert_eq!(rt; settings_refusal(heap, b"257,1,3"), None);
-    assert_eq!(rt; settings_refusal(heap, b"257,1,3\r\nwhatever"), None);
-    refuse_settings(&rt, heap, b"", 21, 1);
-    refuse_settings(&rt, heap, b"257,,3", 21, 2);
-    refuse_settings(&rt, heap, b"257,1", 22, 2);
-    refuse_settings(&rt, heap, b"257,1,3,4", 22, 4);
-    refuse_settings(&rt, heap, b"2570,1,3", 23, 1);
+    assert_eq!(rt; refusal_of(Settings::parse(heap, b"257,1,3")), None);
+    assert_eq!(rt;
+        refusal_of(Settings::parse(heap, b"257,1,3\r\nwhatever")),
+        None
+    );
+    for (text, number, line, field) in SETTINGS {
+        let told = Refusal::in_text(Layer::Settings, number, line, field);
+        assert_eq!(rt; refusal_of(Settings::parse(heap, text)), Some(told));
+    }
 }
 
 #[test]
