@@ -7,10 +7,16 @@ use super::slots::Slots;
 mod carry;
 mod draw;
 
+// A state that is stepped on for each count, and the loss figure that the state is held against.
 #[derive(Drop)]
-pub struct Drawn {
+struct Generator {
     state: u32,
     loss: u16,
+}
+
+#[derive(Drop)]
+pub struct Drawn {
+    generator: Generator,
     counts: [u8; 8],
     slots: Slots,
     ghost eight: { length counts ≡ 8 },

@@ -23,7 +23,7 @@ pub record Over {L : Type 0} (meaning : L → Meaning) (goes : L → List ℕ �
 abbrev pub OverDrawn : Erasing (Erasing Drawn) → List ℕ → Type 0
 OverDrawn p counts =
     let d = p.lower.lower in
-    counts ≡ twice_erased p.periods.of p.lower.periods.of ((drawn_meaning d).carried + 1) (drawn_counts 8 d.loss d.state)
+    counts ≡ twice_erased p.periods.of p.lower.periods.of ((drawn_meaning d).carried + 1) (drawn_counts 8 d.generator.loss d.generator.state)
 
 -- the counts of a script's next line, less what two layers erase in that slot
 abbrev pub OverScripted : Erasing (Erasing Scripted) → List ℕ → Type 0

@@ -5,17 +5,16 @@ ghost use Rattle.link.specs.Laws.{slots_lawful, single_few};
 use super::super::fault::LinkFault;
 use super::super::slots::Slots;
 use super::super::{Link, relay_index};
-use super::Drawn;
-use super::draw::draw;
+use super::{Drawn, Generator};
 
 impl Drawn {
     // A link from a seed and a loss figure; the generator cannot start at 0, so a seed of 0 is taken as 1.
     pub fn new(seed: u32, loss: u16) -> Drawn
         ensures { DrawnNew seed loss result }
     {
+        let state = if seed == 0 { 1 } else { seed };
         Drawn {
-            state: if seed == 0 { 1 } else { seed },
-            loss,
+            generator: Generator { state, loss },
             counts: [0; 8],
             slots: Slots::new(65535),
         }
@@ -37,9 +36,10 @@ impl Link for Drawn {
         self.slots.left
     }
 
+    #[tactic(auto, using(crate::proofs::Draws::drawn_length, crate::proofs::Draws::drawn_single))]
     fn send(&mut self, frame: &[u16]) -> Result<(), LinkFault> {
         self.slots.send(frame)?;
-        self.state = draw(self.state, self.loss, &mut self.counts);
+        self.generator.draw(&mut self.counts);
         Ok(())
     }
 

@@ -10,11 +10,13 @@ use super::super::{Link, relay_index};
 use super::{Erasing, Periods};
 
 impl Periods {
-    // Whether the period at this place, counted from 0, erases a slot.
-    fn erase(&self, place: usize, slot: u16) -> bool
-        requires { place < 8 }
-        ensures { result ≡ erases (slice_index self.now.of place) slot }
+    // Whether the period of a relay erases a slot.
+    fn erase(&self, relay: usize, slot: u16) -> bool
+        ensures { result ≡ erased_for self.now.of slot relay }
     {
+        let Ok(place) = relay_index(relay) else {
+            return false;
+        };
         let period = u16::from(self.of[place]);
         period > 0 && slot % period == 0
     }
@@ -33,10 +35,7 @@ impl<L: Link> Erasing<L> {
     fn erased(&self, relay: usize) -> bool
         ensures { result ≡ erased_for self.now.periods.of (L.meaning self.now.lower).carried relay }
     {
-        match relay_index(relay) {
-            Ok(place) => self.periods.erase(place, self.lower.slots_carried()),
-            Err(_) => false,
-        }
+        self.periods.erase(relay, self.lower.slots_carried())
     }
 
     // Why a relay whose copies are erased is refused: the link below tells whether the buffer has the frame's length.

@@ -32,11 +32,9 @@ impl Scripted {
         requires { place < 8 }
         ensures { result ≡ slice_index (scripted_counts self.now) place }
     {
-        let slot = usize::from(self.slots.carried);
-        if slot == 0 {
-            return 0;
-        }
-        self.script.digit(slot - 1, place)
+        usize::from(self.slots.carried)
+            .checked_sub(1)
+            .map_or(0, |line| self.script.digit(line, place))
     }
 }
 
