@@ -74,6 +74,7 @@ impl<L: Link> Link for Erasing<L> {
         self.lower.send(frame)
     }
 
+    #[tactic(auto, using(crate::specs::Erasures::copies_erased, crate::specs::Erasures::copies_kept))]
     fn copies(&self, relay: usize) -> Result<u8, LinkFault> {
         if self.erased(relay) {
             return Ok(0);
@@ -81,6 +82,7 @@ impl<L: Link> Link for Erasing<L> {
         self.lower.copies(relay)
     }
 
+    #[tactic(auto, using(crate::specs::Erasures::read_erased, crate::specs::Erasures::copies_kept))]
     fn read(&self, relay: usize, buffer: &mut [u16]) -> Result<(), LinkFault> {
         if self.erased(relay) {
             return Err(self.refusal(relay, buffer.len()));
