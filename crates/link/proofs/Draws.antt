@@ -1,7 +1,6 @@
 -- Steps of the generator, one more at a time, and what was drawn. Assumes nothing.
-use Rattle.std.proofs.Common.{◌≡◌, ℕ, ◌+◌, ◌/◌, ◌^◌, ◌≤◌, [], ◌∷◌, ◌++◌, ltb, length, get_or, sym, ap, subst, add-one, arith}
+use Rattle.std.proofs.Common.{◌≡◌, ℕ, ◌+◌, ◌≤◌, [], ◌∷◌, ◌++◌, length, get_or, sym, ap, add-one, arith}
 use Rattle.std.proofs.lemmas.List.FromFn.{length-map-range_with_len, map-range_with_len_more}
-use Rattle.std.proofs.lemmas.Bool.{cond_both}
 use Rattle.std.proofs.lemmas.Grind.{common_steps}
 use Rattle.link.specs.Counts.{step, steps, drawn_count, drawn_counts}
 use Rattle.link.specs.Laws.{each_counted}
@@ -22,9 +21,8 @@ unfolding drawn_counts
 drawn_length n loss x = length-map-range_with_len (λ i. drawn_count loss (steps (i + 1) x)) 0 n
 
 one : (loss x : ℕ) → drawn_count loss x ≤ 1
-one loss x = cond_both (ltb (x / 2 ^ 16) loss) 0 1 (λ n. n ≤ 1) (λ _. omega arith) (λ _. omega arith)
+one loss x = grind (arith, common_steps)
 
-pub drawn_single : (n loss x : ℕ) → n ≡ 8 → (i : ℕ) → get_or (drawn_counts n loss x) i 0 ≤ 1
+pub drawn_single : (n loss x i : ℕ) → get_or (drawn_counts n loss x) i 0 ≤ 1
 unfolding drawn_counts
-drawn_single n loss x e i =
-    subst (λ (m : ℕ). get_or (drawn_counts m loss x) i 0 ≤ 1) (sym e) (each_counted (λ k. drawn_count loss (steps (k + 1) x)) 1 (λ k. one loss (steps (k + 1) x)) i)
+drawn_single n loss x = each_counted (λ k. drawn_count loss (steps (k + 1) x)) 1 n (λ k. one loss (steps (k + 1) x))

@@ -1,10 +1,9 @@
 -- Slots with counts keep the laws of a link, if the counts do. Assumes nothing.
-use Rattle.std.specs.Prelude.{◌≡◌, ℕ, ◌-◌, ◌≤◌, List, map, length, ◌==◌, slice_index, refl}
-use Rattle.std.proofs.Common.{sym, subst, inl, inr, arith}
+use Rattle.std.specs.Prelude.{◌≡◌, ℕ, ◌-◌, ◌≤◌, List, map, length, slice_index}
+use Rattle.std.proofs.Common.{arith}
 use Rattle.std.specs.List.{range_with_len}
 use Rattle.std.proofs.lemmas.List.FromFn.{length-map-range_with_len, get_or-map-range_with_len}
-use Rattle.std.proofs.lemmas.List.{get_or_past, get_or-replicate}
-use Rattle.std.proofs.lemmas.Bool.{cases_lt, cond_both, cond-true, eq-eqb}
+use Rattle.std.proofs.lemmas.Grind.{common_steps}
 use Rattle.text.specs.Scripts.{script_lines}
 use Rattle.text.specs.Tables.{number_at}
 use Rattle.text.specs.declared.script.Script.{Script}
@@ -25,32 +24,21 @@ slots_lawful s counts eight few none = record {
 
 -- counts that are at most 1 are at most 9
 pub single_few : (counts : List ℕ) → ((i : ℕ) → slice_index counts i ≤ 1) → (i : ℕ) → slice_index counts i ≤ 9
-single_few counts single i = let h = single i in omega arith
+single_few counts single i = omega (arith, single i)
 
--- eight values of a function that is at most b everywhere
-pub each_counted : (f : ℕ → ℕ) (b : ℕ) → ((k : ℕ) → f k ≤ b) → (i : ℕ) → slice_index (map f (range_with_len 0 8)) i ≤ b
-each_counted f b h i =
-    elim (cases_lt i 8) [
-      | inl l ↦ subst (λ (x : ℕ). x ≤ b) (sym (get_or-map-range_with_len f 0 8 i i 0 l (omega arith))) (h i)
-      | inr l ↦ subst (λ (x : ℕ). x ≤ b) (sym (get_or_past (map f (range_with_len 0 8)) i 0 (let e = length-map-range_with_len f 0 8 in omega arith))) (omega arith)
-    ]
-
-pub none_few : (i : ℕ) → slice_index no_copies i ≤ 9
-none_few i =
-    elim (cases_lt i 8) [
-      | inl l ↦ subst (λ (x : ℕ). x ≤ 9) (sym (get_or-replicate 8 i 0 0 l)) (omega arith)
-      | inr l ↦ subst (λ (x : ℕ). x ≤ 9) (sym (get_or_past no_copies i 0 l)) (omega arith)
-    ]
+-- values of a function that is at most b everywhere
+pub each_counted : (f : ℕ → ℕ) (b n : ℕ) → ((k : ℕ) → f k ≤ b) → (i : ℕ) → slice_index (map f (range_with_len 0 n)) i ≤ b
+each_counted f b n h i = grind (arith, common_steps, h i, length-map-range_with_len f 0 n, get_or-map-range_with_len f 0 n i i 0)
 
 module _ (script : Script) (t : ℕ) where
   abbrev digit : ℕ → ℕ
   digit = number_at (script_lines script) (t - 1)
 
   pub script_eight : length (line_counts (script_lines script) t) ≡ 8
-  script_eight = cond_both (t == 0) no_copies (map digit (range_with_len 0 8)) (λ ks. length ks ≡ 8) (λ _. refl) (λ _. length-map-range_with_len digit 0 8)
+  script_eight = grind (arith, common_steps, length-map-range_with_len digit 0 8)
 
   pub script_few : (i : ℕ) → slice_index (line_counts (script_lines script) t) i ≤ 9
-  script_few i = cond_both (t == 0) no_copies (map digit (range_with_len 0 8)) (λ ks. slice_index ks i ≤ 9) (λ _. none_few i) (λ _. each_counted digit 9 (script.digits (t - 1)) i)
+  script_few i = grind (arith, common_steps, each_counted digit 9 8 (script.digits (t - 1)) i)
 
   pub script_none : t ≡ 0 → line_counts (script_lines script) t ≡ no_copies
-  script_none z = cond-true (t == 0) no_copies (map digit (range_with_len 0 8)) (eq-eqb t 0 z)
+  script_none z = grind (arith, common_steps)

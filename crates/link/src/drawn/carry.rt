@@ -21,6 +21,7 @@ impl Drawn {
     }
 }
 
+// `Scripted` is no instance of one generic link with this: it reads counts off a line when they are asked for; here `send` draws them.
 impl Link for Drawn {
     ghost meaning = { drawn_meaning };
 

@@ -38,7 +38,8 @@ impl<L: Link> Erasing<L> {
         self.periods.erase(relay, self.lower.slots_carried())
     }
 
-    // Why a relay whose copies are erased is refused: the link below tells whether the buffer has the frame's length.
+    // Why a relay whose copies are erased is refused: the link below tells whether the buffer has the frame's length. The room is
+    // needed since a link has no call for that length, and the buffer stays as it was.
     fn refusal(&self, relay: usize, len: usize) -> LinkFault
         requires { is_relay relay ≡ true }
         ensures { result ≡ nothing_to_read (L.meaning self.now.lower).frame len }
