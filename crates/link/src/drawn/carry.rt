@@ -21,7 +21,7 @@ impl Drawn {
     }
 }
 
-// `Scripted` is no instance of one generic link with this: it reads counts off a line when they are asked for; here `send` draws them.
+// `Scripted` shares only three one-line calls: its counts are read off a line when asked for, these are drawn by `send`.
 impl Link for Drawn {
     ghost meaning = { drawn_meaning };
 

@@ -1,7 +1,5 @@
 // A layer made, and its calls.
-ghost use Rattle.std.specs.Prelude.{◌≡◌, ◌<◌, true, slice_index};
-ghost use Rattle.link.specs.Calls.{is_relay};
-ghost use Rattle.link.specs.Counts.{erases};
+ghost use Rattle.std.specs.Prelude.{◌≡◌};
 ghost use Rattle.link.specs.Erased.{erased, erased_for, nothing_to_read};
 ghost use Rattle.link.specs.Erasures.{erased_lawful};
 
@@ -41,7 +39,6 @@ impl<L: Link> Erasing<L> {
     // Why a relay whose copies are erased is refused: the link below tells whether the buffer has the frame's length. The room is
     // needed since a link has no call for that length, and the buffer stays as it was.
     fn refusal(&self, relay: usize, len: usize) -> LinkFault
-        requires { is_relay relay ≡ true }
         ensures { result ≡ nothing_to_read (L.meaning self.now.lower).frame len }
     {
         if len > 64 {
