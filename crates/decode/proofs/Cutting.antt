@@ -1,7 +1,22 @@
--- Whole frames fit into the codes. Assumes nothing.
-use Rattle.std.proofs.Common.{ℕ, ◌+◌, ◌*◌, ◌/◌, ◌<◌, ◌≤◌, mul-le-mul_right, add-mul, one-mul, div-mul-le_self, arith}
+-- Whole frames cut off a list of codes. Assumes nothing.
+use Rattle.std.proofs.Common.{◌≡◌, ℕ, ◌/◌, ◌<◌, List, [], ◌∷◌, ◌++◌, length, length-append, ap, ◌∙◌, ap₂, subst, add-one}
+use Rattle.std.proofs.Math.Nat.{div-eq_of_lt, add-div_left}
+use Rattle.std.proofs.Math.Seq.{take-append_seam, drop-append_seam}
+use Rattle.std.specs.Simd.{first_chunks}
+use Rattle.decode.specs.Recordings.{frames_of}
 
-pub frame_fits : (len w k : ℕ) → k < len / w → k * w + w ≤ len
-frame_fits len w k h =
-    let most : (k + 1) * w ≤ len / w * w = mul-le-mul_right w (omega arith) in
-    omega (arith, most, add-mul k 1 w, one-mul w, div-mul-le_self len w)
+-- codes that fill no frame hold none
+pub frames_none : (codes : List ℕ) (w : ℕ) → length codes < w → frames_of codes w ≡ []
+unfolding frames_of
+frames_none codes w h = ap (λ n. first_chunks w n codes) (div-eq_of_lt h)
+
+front : (f codes : List ℕ) → 0 < length f → frames_of (f ++ codes) (length f) ≡ f ∷ frames_of codes (length f)
+unfolding frames_of
+front f codes some =
+    let w = length f in
+    ap (λ n. first_chunks w n (f ++ codes)) (ap (λ n. n / w) (length-append f codes) ∙ add-div_left (length codes) some ∙ add-one (length codes / w))
+    ∙ ap₂ (λ x xs. x ∷ first_chunks w (length codes / w) xs) (take-append_seam f codes) (drop-append_seam f codes)
+
+-- the frame at the front, and the frames of the rest
+pub frames_more : (f codes : List ℕ) (w : ℕ) → 0 < w → length f ≡ w → frames_of (f ++ codes) w ≡ f ∷ frames_of codes w
+frames_more f codes w some long = subst (λ n. 0 < n → frames_of (f ++ codes) n ≡ f ∷ frames_of codes n) long (front f codes) some

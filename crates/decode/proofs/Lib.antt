@@ -1,3 +1,3 @@
 mod Hearings
 mod Cutting
-mod Pushing
+mod Writing

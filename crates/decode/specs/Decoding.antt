@@ -1,5 +1,5 @@
 -- What a relay answers to frames, one after another, and the packets that it then reads. Assumes nothing.
-use Rattle.std.specs.Prelude.{◌≡◌, ℕ, ◌+◌, ◌<◌, List, [], ◌∷◌, length, replicate, Some, None, Ok, Err, vec_items, Option, Result, Vec, slice_index_or}
+use Rattle.std.specs.Prelude.{◌≡◌, ℕ, ◌+◌, ◌<◌, List, [], ◌∷◌, map, length, replicate, Some, None, Ok, Err, vec_items, Option, Result, Vec, slice_index_or}
 use Rattle.std.specs.declared.alloc.Global.{Global}
 use Rattle.faults.specs.Refusals.{RefusedBy}
 use Rattle.field.specs.Fields.{Ops}
@@ -12,18 +12,19 @@ use Rattle.relay.specs.States.{State}
 use Rattle.decode.specs.declared.decoding.Decoding.{Decoding}
 use Rattle.decode.specs.declared.decoding.Line.{Line}
 
+-- the frames that were heard
+abbrev pub frames_of_lines : List Line → List (List ℕ)
+frames_of_lines xs = map (λ (x : Line). x.frame.now) xs
+
 -- a line for each frame: what was answered when it was heard, and the set of packets seen after it
-abbrev pub Listed : Option State → List (List ℕ) → List Line → Option State → Type 0
-Listed s [] [] t = t ≡ s
-Listed s [] (x ∷ xs) t = ⊥
-Listed s (f ∷ fs) [] t = ⊥
-Listed s (f ∷ fs) (x ∷ xs) t = (m : Option State) × (Hears s f x.answer m × ((Ok x.seen ≡ seen_answer m) × Listed m fs xs t))
+abbrev pub Listed : Option State → List Line → Option State → Type 0
+Listed s [] t = t ≡ s
+Listed s (x ∷ xs) t = (m : Option State) × (Hears s x.frame.now x.answer m × ((Ok x.seen ≡ seen_answer m) × Listed m xs t))
 
 -- these hearings, the last one first, after earlier ones
-abbrev pub hearings : List Hearing → List (List ℕ) → List Line → List Hearing
-hearings hs [] xs = hs
-hearings hs (f ∷ fs) [] = hs
-hearings hs (f ∷ fs) (x ∷ xs) = hearings (record { frame = f; answer = x.answer } ∷ hs) fs xs
+abbrev pub hearings : List Hearing → List Line → List Hearing
+hearings hs [] = hs
+hearings hs (x ∷ xs) = hearings (record { frame = x.frame.now; answer = x.answer } ∷ hs) xs
 
 -- a packet that was read, or none where the relay refuses it
 abbrev pub ReadAs : Option State → ℕ → ℕ → Option (Vec ℕ Global) → Type 0
@@ -38,8 +39,9 @@ pub record ReadOff (s : Option State) (l : ℕ) (packets : List (Option (Vec ℕ
 -- a decoding: from a relay newly started, every frame is listed, the relay keeps its promise, and every packet is read that can be
 pub record Decoded (o : Ops) (n l : ℕ) (frames : List (List ℕ)) (d : Decoding) : Type 0 where
   pub last : Option State
-  pub listed : Listed (Some (record { ops = o; table = empty_table o.size n l })) frames (vec_items d.lines) last
-  pub promise : Promise o n l (hearings [] frames (vec_items d.lines)) last
+  pub heard : frames_of_lines (vec_items d.lines) ≡ frames
+  pub listed : Listed (Some (record { ops = o; table = empty_table o.size n l })) (vec_items d.lines) last
+  pub promise : Promise o n l (hearings [] (vec_items d.lines)) last
   pub read : ReadOff last l (vec_items d.packets) n
 
 abbrev pub Decodes : Ops → ℕ → ℕ → List (List ℕ) → Result Decoding RowsFault → Type 0

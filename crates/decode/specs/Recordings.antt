@@ -1,18 +1,18 @@
 -- A recording of frames as bytes. Assumes nothing.
-use Rattle.std.specs.Prelude.{ℕ, ◌+◌, ◌*◌, ◌/◌, cond, List, [], map, length, take, drop, ◌==◌, slice_index}
-use Rattle.std.specs.List.{range_with_len}
+use Rattle.std.specs.Prelude.{ℕ, ◌+◌, ◌*◌, ◌/◌, cond, List, [], map, length, ◌==◌, slice_index}
+use Rattle.std.specs.Simd.{first_chunks}
 
--- code i, two bytes, the higher one first
-abbrev pub written : List ℕ → ℕ → ℕ
-written bytes i = slice_index bytes (2 * i) * 256 + slice_index bytes (2 * i + 1)
+-- a code of two bytes, the higher one first
+abbrev pub code_of : List ℕ → ℕ
+code_of pair = slice_index pair 0 * 256 + slice_index pair 1
 
 -- the codes that the bytes write
 unfoldable pub codes_of : List ℕ → List ℕ
-codes_of bytes = map (written bytes) (range_with_len 0 (length bytes / 2))
+codes_of bytes = map code_of (first_chunks 2 (length bytes / 2) bytes)
 
 -- whole frames of w codes, one after another
 unfoldable pub frames_of : List ℕ → ℕ → List (List ℕ)
-frames_of codes w = map (λ k. take w (drop (k * w) codes)) (range_with_len 0 (length codes / w))
+frames_of codes w = first_chunks w (length codes / w) codes
 
 -- the frames of a recording; frames without codes are none
 abbrev pub recorded : List ℕ → ℕ → List (List ℕ)

@@ -2,24 +2,25 @@
 ghost use Rattle.std.specs.Prelude.{◌≡◌, ◌≤◌, true, is_some, IfOk};
 ghost use Rattle.elimination.specs.Reduction.{lists};
 ghost use Rattle.relay.specs.States.{state};
-ghost use Rattle.decode.specs.Decoding.{Decodes, Listed, ReadAs, ReadOff};
+ghost use Rattle.decode.specs.Decoding.{Decodes, frames_of_lines, Listed, ReadAs, ReadOff};
 
 use elimination::fault::RowsFault;
 use field::Field;
 use relay::Relay;
 use std::alloc::{AllocError, Global};
 
-// What the relay answered to one frame, and the packets that it had then seen.
+// A frame, what the relay answered to it, and the packets that it had then seen.
 #[derive(Clone, Copy)]
-pub struct Line {
+pub struct Line<'a> {
+    pub frame: &'a [u16],
     pub answer: Result<usize, RowsFault>,
     pub seen: u32,
 }
 
 // A line for each frame, and then each packet that could be read.
 #[derive(Drop)]
-pub struct Decoding {
-    pub lines: Vec<Line>,
+pub struct Decoding<'a> {
+    pub lines: Vec<Line<'a>>,
     pub packets: Vec<Option<Vec<u16>>>,
 }
 
@@ -30,7 +31,7 @@ pub fn decode<F: Field + Drop>(
     packets: usize,
     symbols: usize,
     frames: &[Vec<u16>],
-) -> Result<Decoding, RowsFault>
+) -> Result<Decoding<'_>, RowsFault>
     ensures { Decodes (F.ops field) packets symbols (lists frames.now) result }
 {
     let mut relay = Relay::empty();
@@ -41,20 +42,26 @@ pub fn decode<F: Field + Drop>(
 }
 
 // Has a started relay hear the frames.
-fn hear_all<F: Field + Drop>(
+fn hear_all<'a, F: Field + Drop>(
     heap: Global,
     relay: &mut Relay<F>,
-    frames: &[Vec<u16>],
-) -> Result<Vec<Line>, AllocError>
+    frames: &'a [Vec<u16>],
+) -> Result<Vec<Line<'a>>, AllocError>
     requires { is_some (state F.ops relay.old) ≡ true }
     ensures started { is_some (state F.ops relay.new) ≡ true }
-    ensures listed { IfOk result (λ v. Listed (state F.ops relay.old) (lists frames.now) v.items (state F.ops relay.new)) }
+    ensures frames { IfOk result (λ v. frames_of_lines v.items ≡ lists frames.now) }
+    ensures listed { IfOk result (λ v. Listed (state F.ops relay.old) v.items (state F.ops relay.new)) }
 {
     let mut lines = Vec::new(heap);
-    for i in 0..frames.len() {
-        let answer = relay.hear(frames[i].as_slice());
+    for frame in frames {
+        let frame = frame.as_slice();
+        let answer = relay.hear(frame);
         let seen = relay.seen().unwrap();
-        lines.push(Line { answer, seen })?;
+        lines.push(Line {
+            frame,
+            answer,
+            seen,
+        })?;
     }
     Ok(lines)
 }
@@ -69,8 +76,8 @@ fn read_all<F: Field + Drop>(
     ensures { IfOk result (λ v. ReadOff (state F.ops relay.now) symbols v.items packets) }
 {
     let mut read = Vec::new(heap);
-    for k in 0..packets {
-        read.push(read_packet(heap, relay, k + 1, symbols)?)?;
+    for packet in 1..=packets {
+        read.push(read_packet(heap, relay, packet, symbols)?)?;
     }
     Ok(read)
 }
@@ -85,8 +92,6 @@ fn read_packet<F: Field + Drop>(
     ensures { IfOk result (ReadAs (state F.ops relay.now) symbols packet) }
 {
     let mut buffer = vec![in heap; 0; symbols]?;
-    match relay.fetch(packet, buffer.as_mut_slice()) {
-        Ok(()) => Ok(Some(buffer)),
-        Err(_) => Ok(None),
-    }
+    let read = relay.fetch(packet, buffer.as_mut_slice()).is_ok();
+    Ok(read.then_some(buffer))
 }

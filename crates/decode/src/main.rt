@@ -28,20 +28,18 @@ fn told<F: Field + Drop>(
 {
     let frames = read_frames(heap, bytes, 7)?;
     match decode(heap, field, 4, 3, frames.as_slice()) {
-        Ok(decoding) => {
-            let text = listing(heap, name, frames.as_slice(), &decoding)?;
-            Ok(text)
-        }
-        Err(fault) => {
-            let text = refused(heap, name, &fault)?;
-            Ok(text)
-        }
+        Ok(decoding) => listing(heap, name, &decoding),
+        Err(fault) => refused(heap, name, &fault),
     }
 }
 
+// Reads a recording by the name of its file, and prints what is told of it.
+fn tell<F: Field + Drop>(rt: &HostRuntime, file: &str, name: &str, field: F) -> io::Result<()> {
+    let bytes = fs::read(rt, file)?;
+    rt.print(told(rt.alloc(), name, bytes.as_slice(), field)?)
+}
+
 fn main(rt: HostRuntime) -> io::Result<()> {
-    let prime = fs::read(&rt, "modulo_257.bin")?;
-    rt.print(told(rt.alloc(), "modulo 257", prime.as_slice(), Modulo257)?)?;
-    let bytes = fs::read(&rt, "gf256.bin")?;
-    rt.print(told(rt.alloc(), "GF(256)", bytes.as_slice(), Gf256)?)
+    tell(&rt, "modulo_257.bin", "modulo 257", Modulo257)?;
+    tell(&rt, "gf256.bin", "GF(256)", Gf256)
 }

@@ -20,11 +20,11 @@ pub fn read_frames(heap: Global, bytes: &[u8], width: usize) -> Result<Vec<Vec<u
 fn read_codes(heap: Global, bytes: &[u8]) -> Result<Vec<u16>, AllocError>
     ensures { IfOk result (λ v. v.items ≡ codes_of bytes.now) }
 {
-    let mut codes = Vec::new(heap);
-    for i in 0..bytes.len() / 2 {
-        codes.push(u16::from(bytes[2 * i]) * 256 + u16::from(bytes[2 * i + 1]))?;
-    }
-    Ok(codes)
+    let (pairs, _) = bytes.as_chunks::<2>();
+    pairs
+        .iter()
+        .map(|pair| u16::from_be_bytes(*pair))
+        .collect(heap)
 }
 
 // Whole frames, one after another.
@@ -33,9 +33,7 @@ fn cut(heap: Global, codes: &[u16], width: usize) -> Result<Vec<Vec<u16>>, Alloc
     ensures { IfOk result (λ v. lists v.items ≡ frames_of codes.now width) }
 {
     let mut frames = Vec::new(heap);
-    for k in 0..codes.len() / width {
-        let (_, rest) = codes.split_at(k * width);
-        let (frame, _) = rest.split_at(width);
+    for frame in codes.chunks_exact(width) {
         frames.push(Vec::from_slice(heap, frame)?)?;
     }
     Ok(frames)

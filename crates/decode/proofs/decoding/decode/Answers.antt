@@ -1,5 +1,4 @@
 use Rattle.std.proofs.Common.{[], vec_items, refl, subst}
-use Rattle.elimination.specs.Reduction.{lists}
 use Rattle.relay.specs.States.{state}
 use Rattle.decode.specs.Decoding.{Listed, hearings}
 use Rattle.decode.proofs.Hearings.{reached_by}
@@ -10,13 +9,13 @@ returns g c =
     let ops = g.F.Field.ops in
     let s = state ops c.start.new.self in
     let t = state ops c.hear_all.new.relay in
-    let frames = lists c.args.frames.now in
     let lines = vec_items c.in_ok-lines.lines in
     let start = c.in_ok-start.ensures in
     let listed = c.in_ok-lines.ensures.listed in
     record {
       last = t;
-      listed = subst (λ x. Listed x frames lines t) start.started.1 listed;
-      promise = start.promise (hearings [] frames lines) t (reached_by s [] s frames lines t refl listed);
+      heard = c.in_ok-lines.ensures.frames;
+      listed = subst (λ x. Listed x lines t) start.started.1 listed;
+      promise = start.promise (hearings [] lines) t (reached_by s [] s lines t refl listed);
       read = c.in_ok-packets.ensures;
     }
