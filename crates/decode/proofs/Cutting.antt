@@ -7,11 +7,9 @@ use Rattle.decode.specs.Recordings.{frames_of}
 
 -- codes that fill no frame hold none
 pub frames_none : (codes : List ℕ) (w : ℕ) → length codes < w → frames_of codes w ≡ []
-unfolding frames_of
 frames_none codes w h = ap (λ n. first_chunks w n codes) (div-eq_of_lt h)
 
 front : (f codes : List ℕ) → 0 < length f → frames_of (f ++ codes) (length f) ≡ f ∷ frames_of codes (length f)
-unfolding frames_of
 front f codes some =
     let w = length f in
     ap (λ n. first_chunks w n (f ++ codes)) (ap (λ n. n / w) (length-append f codes) ∙ add-div_left (length codes) some ∙ add-one (length codes / w))

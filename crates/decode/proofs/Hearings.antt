@@ -1,10 +1,12 @@
 -- Lines for frames, one after another. Assumes nothing.
-use Rattle.std.proofs.Common.{◌≡◌, ℕ, zero, suc, ◌+◌, ◌-◌, ◌<◌, true, List, [], ◌∷◌, ◌++◌, get_or, is_some, Some, None, Ok, Err, Option, Result, Vec, sym, refl, ap, ◌∙◌, subst, subst₂, inl, inr, arith}
+use Rattle.std.proofs.Common.{◌≡◌, ℕ, zero, suc, ◌+◌, ◌-◌, ◌<◌, true, List, [], ◌∷◌, ◌++◌, get_or, replicate, is_some, vec_items, Some, None, Ok, Err, Option, Result, Vec, sym, refl, ap, ◌∙◌, subst, subst₂, inl, inr, arith}
+use Rattle.std.specs.Bool.{then_some}
+use Rattle.std.specs.Result.{is_ok}
 use Rattle.std.specs.declared.alloc.Global.{Global}
 use Rattle.std.proofs.lemmas.List.{get_or_append_left, get_or_push, length_push}
 use Rattle.std.proofs.lemmas.Bool.{cases_eq}
 use Rattle.elimination.specs.declared.fault.RowsFault.{RowsFault}
-use Rattle.relay.specs.Calls.{Hears, seen_answer}
+use Rattle.relay.specs.Calls.{Hears, seen_answer, Fetches}
 use Rattle.relay.specs.Promise.{Hearing, Reached}
 use Rattle.relay.specs.States.{State}
 use Rattle.decode.specs.declared.decoding.Line.{Line}
@@ -29,6 +31,16 @@ pub reached_by : (s : Option State) (hs : List Hearing) (m : Option State) (xs :
 reached_by s hs m [] t before same = subst (Reached s hs) (sym same) before
 reached_by s hs m (x ∷ xs) t before (next, (heard, (seen, rest))) =
     reached_by s (record { frame = x.frame.now; answer = x.answer } ∷ hs) next xs t (m, (before, heard)) rest
+
+unchanged : (s : Option State) (k : ℕ) (before after : List ℕ) (e : RowsFault) → Fetches s k before (Err e) after → after ≡ before
+unchanged None k before after e fetched = fetched.1
+unchanged (Some s) k before after e fetched = fetched.1
+
+-- what is fetched into zeros is read, and what is refused is not
+pub read_as : (s : Option State) (l k : ℕ) (r : Result (Unit {0}) RowsFault) (v : Vec ℕ Global) {zeros after : List ℕ}
+    → zeros ≡ replicate l 0 → vec_items v ≡ after → Fetches s k zeros r after → ReadAs s l k (then_some (is_ok r) v)
+read_as s l k (Ok _) v blank read fetched = subst₂ (λ b a. Fetches s k b (Ok tt) a) blank (sym read) fetched
+read_as s l k (Err e) v blank read fetched = (e, subst₂ (λ b a. Fetches s k b (Err e) a) blank (unchanged s k _ _ e fetched ∙ blank) fetched)
 
 pushed : (s : Option State) (l : ℕ) (ps : List (Option (Vec ℕ Global))) (n : ℕ) (p : Option (Vec ℕ Global)) → ReadOff s l ps n → ReadAs s l (n + 1) p → ReadOff s l (ps ++ (p ∷ [])) (n + 1)
 pushed s l ps n p r next = record {

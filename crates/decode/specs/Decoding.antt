@@ -12,11 +12,11 @@ use Rattle.relay.specs.States.{State}
 use Rattle.decode.specs.declared.decoding.Decoding.{Decoding}
 use Rattle.decode.specs.declared.decoding.Line.{Line}
 
--- the frames that were heard
+-- the frames of the lines
 abbrev pub frames_of_lines : List Line → List (List ℕ)
 frames_of_lines xs = map (λ (x : Line). x.frame.now) xs
 
--- a line for each frame: what was answered when it was heard, and the set of packets seen after it
+-- each line's frame is heard: what was answered to it, and the set of packets seen after it
 abbrev pub Listed : Option State → List Line → Option State → Type 0
 Listed s [] t = t ≡ s
 Listed s (x ∷ xs) t = (m : Option State) × (Hears s x.frame.now x.answer m × ((Ok x.seen ≡ seen_answer m) × Listed m xs t))
@@ -36,7 +36,7 @@ pub record ReadOff (s : Option State) (l : ℕ) (packets : List (Option (Vec ℕ
   pub long : length packets ≡ n
   pub each : (k : ℕ) → k < n → ReadAs s l (k + 1) (slice_index_or packets k None)
 
--- a decoding: from a relay newly started, every frame is listed, the relay keeps its promise, and every packet is read that can be
+-- a decoding: from a relay newly started, every frame is heard on a line, the relay keeps its promise, and every packet is read that can be
 pub record Decoded (o : Ops) (n l : ℕ) (frames : List (List ℕ)) (d : Decoding) : Type 0 where
   pub last : Option State
   pub heard : frames_of_lines (vec_items d.lines) ≡ frames

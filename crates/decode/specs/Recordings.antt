@@ -7,11 +7,11 @@ abbrev pub code_of : List ℕ → ℕ
 code_of pair = slice_index pair 0 * 256 + slice_index pair 1
 
 -- the codes that the bytes write
-unfoldable pub codes_of : List ℕ → List ℕ
+abbrev pub codes_of : List ℕ → List ℕ
 codes_of bytes = map code_of (first_chunks 2 (length bytes / 2) bytes)
 
 -- whole frames of w codes, one after another
-unfoldable pub frames_of : List ℕ → ℕ → List (List ℕ)
+abbrev pub frames_of : List ℕ → ℕ → List (List ℕ)
 frames_of codes w = first_chunks w (length codes / w) codes
 
 -- the frames of a recording; frames without codes are none
