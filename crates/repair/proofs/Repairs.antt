@@ -1,18 +1,20 @@
 -- Coded sums, term by term: adding one, taking one out, and dividing what is left. Assumes nothing.
-use Rattle.std.proofs.Common.{◌≡◌, ℕ, zero, suc, ◌+◌, ◌<◌, ◌≤◌, List, [], ◌∷◌, map, length, get_or, drop, set, Some, None, Ok, Option, sym, refl, ap, ◌∙◌, subst, ap₂, inl, inr, le_trans, not-suc-le-zero, arith, lit≤}
+use Rattle.std.proofs.Common.{◌≡◌, ℕ, zero, suc, ◌+◌, ◌<◌, ◌≤◌, List, [], ◌∷◌, map, length, get_or, drop, Some, None, Ok, Option, Result, sym, refl, ap, ◌∙◌, subst, subst₂, ap₂, inl, inr, le_trans, not-suc-le-zero, arith, lit≤}
 use Rattle.std.specs.List.{range_with_len}
 use Rattle.std.proofs.lemmas.List.FromFn.{fill_by_all, get_or-map-range_with_len, length-map-range_with_len}
 use Rattle.std.proofs.lemmas.List.{get_or-drop, length-drop, drop_more, drop_all, length-set, length-map, get_or-set_other, get_or-set_same, get_or-map}
 use Rattle.std.proofs.lemmas.Bool.{cases_lt, cases_eq}
 use Rattle.field.specs.Fields.{Ops, Lawful}
 use Rattle.field.specs.Answers.{difference_answer, inverse_answer}
-use Rattle.field.proofs.Arithmetic.{zero-add, mul-zero, sub_negative, add_sub, inv_mul}
+use Rattle.field.proofs.Arithmetic.{mul-zero, sub_negative, add_sub, inv_mul}
 use Rattle.field.proofs.Answered.{answered_two, accepts_inverse}
 use Rattle.field.proofs.Elements.{elements, not_none, inverse_code}
 use Rattle.algebra.specs.Frames.{Codes}
-use Rattle.elimination.specs.Rows.{Subtractable, less_at, less_multiple}
-use Rattle.elimination.proofs.Subtraction.{less_closed, get_or_less, length_less}
-use Rattle.repair.specs.Coding.{coded_at, coded_row, multiple, Packet, Sendable, Arrived}
+use Rattle.elimination.specs.Rows.{Subtractable, less_at, less_multiple, subtract_answer, subtract_after}
+use Rattle.elimination.specs.declared.fault.RowsFault.{RowsFault}
+use Rattle.elimination.proofs.Subtraction.{less_closed, get_or_less, length_less, fit_accepted}
+use Rattle.repair.specs.declared.coding.Term.{Term}
+use Rattle.repair.specs.Coding.{coefficients, packets, coded_at, coded_row, multiple, plus_multiple, Packet, Sendable, Added, Arrived, Scaled}
 
 -- lists made by functions that agree at each place are equal
 same_map : (f g : ℕ → ℕ) (n : ℕ) → ((i : ℕ) → i < n → f i ≡ g i) → map f (range_with_len 0 n) ≡ map g (range_with_len 0 n)
@@ -40,31 +42,20 @@ subtracted o laws t f s fit long = record {
       (less_closed o laws t f s fit.factor_code fit.target_codes fit.source_codes fit.long i l);
 }
 
--- of three packets, the second is lost
-pub second_lost : (ps : List (List ℕ)) → length ps ≡ 3 → Some (get_or ps 0 []) ∷ None ∷ Some (get_or ps 2 []) ∷ [] ≡ set (map Some ps) 1 None
-second_lost [] h = absurd (omega arith)
-second_lost (a ∷ []) h = absurd (omega arith)
-second_lost (a ∷ b ∷ []) h = absurd (omega arith)
-second_lost (a ∷ b ∷ c ∷ []) h = refl
-second_lost (a ∷ b ∷ c ∷ d ∷ ps) h = absurd (omega arith)
+-- the coefficient of a term, and its packet
+coefficient_at : {P : Type 0} (ts : List (Term P)) (k : ℕ) (d : Term P) → k < length ts → get_or (coefficients ts) k 0 ≡ (get_or ts k d).coefficient
+coefficient_at ts k d h = get_or-map (λ t. t.coefficient) ts k d 0 h
 
-pub arrives : (o : Ops) (cs : List ℕ) (ps : List (List ℕ)) (coded : List ℕ) → Sendable o.size cs ps → length ps ≡ 3 → 0 < get_or cs 1 0 → coded ≡ coded_row o cs ps
-    → Arrived o cs ps 1 (Some (get_or ps 0 []) ∷ None ∷ Some (get_or ps 2 []) ∷ []) coded
-arrives o cs ps coded ok three part sum =
-    record { sendable = ok; within = omega arith; others = second_lost ps three; sum = sum; takes_part = part }
+packet_at : {P : Type 0} (ts : List (Term P)) (k : ℕ) (d : Term P) (e : P) → k < length ts → get_or (packets ts) k e ≡ (get_or ts k d).packet
+packet_at ts k d e h = get_or-map (λ t. t.packet) ts k d e h
 
 module _ (o : Ops) (laws : Lawful o) where
   zero_code : 0 < o.size
   zero_code = le_trans (lit≤ tt) laws.size_least
 
   -- taking away a negative multiple of p adds the multiple
-  pub add_term : (x c p rest : ℕ) → x < o.size → c < o.size → p < o.size → rest < o.size
-      → o.sum (o.difference x (o.product (o.difference 0 c) p)) rest ≡ o.sum x (o.sum (o.product c p) rest)
-  add_term x c p rest hx hc hp hr =
-      let k = elements o laws in
-      ap (λ e. e.0)
-      (ap (λ e. k.add e (rest, hr)) (sub_negative k (x, hx) (c, hc) (p, hp))
-      ∙ k.add_assoc (x, hx) (k.mul (c, hc) (p, hp)) (rest, hr))
+  add_term : (x c p : ℕ) → x < o.size → c < o.size → p < o.size → o.difference x (o.product (o.difference 0 c) p) ≡ o.sum x (o.product c p)
+  add_term x c p hx hc hp = ap (λ e. e.0) (sub_negative (elements o laws) (x, hx) (c, hc) (p, hp))
 
   -- a term is taken out of a sum
   pub take_term : (m x s : ℕ) → m < o.size → x < o.size → s < o.size → o.difference (o.sum m (o.sum x s)) x ≡ o.sum m s
@@ -74,32 +65,54 @@ module _ (o : Ops) (laws : Lawful o) where
       (ap (λ e. k.sub e (x, hx)) (ap (k.add (m, hm)) (k.add_comm (x, hx) (s, hs)) ∙ sym (k.add_assoc (m, hm) (s, hs) (x, hx)))
       ∙ add_sub k (k.add (m, hm) (s, hs)) (x, hx))
 
-  -- nothing less a negative multiple is the multiple
-  pub only_term : (f x : ℕ) → f < o.size → x < o.size → o.difference 0 (o.product (o.difference 0 f) x) ≡ o.product f x
-  only_term f x hf hx =
-      let k = elements o laws in
-      ap (λ e. e.0) (sub_negative k k.zero (f, hf) (x, hx) ∙ zero-add k (k.mul (f, hf) (x, hx)))
+  zero_sum : (x : ℕ) → x < o.size → o.sum 0 x ≡ x
+  zero_sum x h = laws.sum_comm 0 x zero_code h ∙ laws.sum_zero x h
 
   pub divide : (c x : ℕ) → 0 < c → c < o.size → x < o.size → o.product (o.inverse c) (o.product c x) ≡ x
   divide c x p hc hx =
       let k = elements o laws in
       ap (λ i. o.product i (o.product c x)) (sym (inverse_code o laws c hc p)) ∙ ap (λ e. e.0) (inv_mul k (c, hc) (x, hx) (not_none o laws c hc p))
 
-  -- a row taken from nothing by a negative factor is the multiple
-  pub scaled_fit : (f n : ℕ) (row : List ℕ) → f < o.size → n ≡ o.difference 0 f → Packet o.size row → Subtractable o.size blank n row
-  scaled_fit f n row h e packet = record {
-    long = packet.long;
-    target_codes = λ i _. rw (zeros i) zero_code;
-    source_codes = packet.codes;
-    factor_code = rw e (laws.difference_closed 0 f zero_code h);
-  }
+  module _ (t : List ℕ) (f : ℕ) (s : List ℕ) where
+    -- what is left where a negative multiple is taken away is the row with the multiple added
+    pub add_done : (n : ℕ) (r : Result (Unit {0}) RowsFault) (new : List ℕ)
+        → Ok n ≡ difference_answer o 0 f → r ≡ subtract_answer o.size t n s → new ≡ subtract_after o t n s r → Added o t f s r new
+    unfolding less_multiple
+    add_done n r new answered answer after fit = (ok, after ∙ ap (subtract_after o t n s) ok ∙ sums)
+      where
+        e : n ≡ o.difference 0 f
+        e = answered_two o.size o.difference 0 f n zero_code fit.factor_code answered
 
-  pub scaled_is : (f n : ℕ) (row : List ℕ) → f < o.size → n ≡ o.difference 0 f → Packet o.size row → less_multiple o blank n row ≡ multiple o f row
-  unfolding less_multiple
-  scaled_is f n row h e packet =
-      same_map (less_at o blank n row) (λ j. o.product f (get_or row j 0)) 4
-      (λ j l. ap₂ (λ x y. o.difference x (o.product y (get_or row j 0))) (zeros j) e
-      ∙ only_term f (get_or row j 0) h (packet.codes j (subst (λ (m : ℕ). j < m) (sym packet.long) l)))
+        negative_fit : Subtractable o.size t n s
+        negative_fit = record {
+          long = fit.long;
+          target_codes = fit.target_codes;
+          source_codes = fit.source_codes;
+          factor_code = rw e (laws.difference_closed 0 f zero_code fit.factor_code);
+        }
+
+        ok : r ≡ Ok tt
+        ok = answer ∙ fit_accepted o.size t n s negative_fit
+
+        sums : less_multiple o t n s ≡ plus_multiple o t f s
+        sums = same_map (less_at o t n s) (λ j. o.sum (get_or t j 0) (o.product f (get_or s j 0))) (length t)
+            (λ j l. ap (λ y. o.difference (get_or t j 0) (o.product y (get_or s j 0))) e
+            ∙ add_term (get_or t j 0) f (get_or s j 0) (fit.target_codes j l) fit.factor_code (fit.source_codes j (subst (λ (m : ℕ). j < m) (sym fit.long) l)))
+
+    at_plus : (j : ℕ) → j < length t → get_or (plus_multiple o t f s) j 0 ≡ o.sum (get_or t j 0) (o.product f (get_or s j 0))
+    at_plus j l = get_or-map-range_with_len (λ i. o.sum (get_or t i 0) (o.product f (get_or s i 0))) 0 (length t) j j 0 l (omega arith)
+
+    length_plus : length (plus_multiple o t f s) ≡ length t
+    length_plus = length-map-range_with_len (λ i. o.sum (get_or t i 0) (o.product f (get_or s i 0))) 0 (length t)
+
+    -- a packet with a multiple added is a packet
+    plus_packet : Subtractable o.size t f s → length t ≡ 4 → Packet o.size (plus_multiple o t f s)
+    plus_packet fit long = record {
+      long = length_plus ∙ long;
+      codes = λ i h. let l : i < length t = subst (λ (n : ℕ). i < n) length_plus h in
+          rw (at_plus i l) (laws.sum_closed _ _ (fit.target_codes i l)
+          (laws.product_closed _ _ fit.factor_code (fit.source_codes i (subst (λ (m : ℕ). i < m) (sym fit.long) l))));
+    }
 
   coded_closed : (cs : List ℕ) (ps : List (List ℕ)) (j : ℕ) → Codes o.size cs → ((k : ℕ) → k < length ps → get_or (get_or ps k []) j 0 < o.size)
       → coded_at o cs ps j < o.size
@@ -145,35 +158,24 @@ module _ (o : Ops) (laws : Lawful o) where
       total = λ j h. ap (λ x. o.sum x (to_come 0 j)) (zeros j) ∙ laws.sum_comm 0 (to_come 0 j) zero_code (to_come_code 0 j h) ∙ laws.sum_zero (to_come 0 j) (to_come_code 0 j h);
     }
 
-    -- the negative of a coefficient, as the field answers it
-    pub negative : (k n : ℕ) → k < length ps → Ok n ≡ difference_answer o 0 (get_or cs k 0) → n ≡ o.difference 0 (get_or cs k 0)
-    negative k n h e = answered_two o.size o.difference 0 (get_or cs k 0) n zero_code (ok.coefficients k (omega (arith, ok.as_many))) e
-
-    adding_fit : (k : ℕ) (t : List ℕ) → k < length ps → Adding k t → Subtractable o.size t (o.difference 0 (get_or cs k 0)) (get_or ps k [])
+    pub adding_fit : (k : ℕ) (t : List ℕ) → k < length ps → Adding k t → Subtractable o.size t (get_or cs k 0) (get_or ps k [])
     adding_fit k t h a = record {
       long = (ok.packets k h).long ∙ sym a.packet.long;
       target_codes = a.packet.codes;
       source_codes = (ok.packets k h).codes;
-      factor_code = laws.difference_closed 0 (get_or cs k 0) zero_code (ok.coefficients k (omega (arith, ok.as_many)));
+      factor_code = ok.coefficients k (omega (arith, ok.as_many));
     }
 
-    adding_more : (k : ℕ) (t : List ℕ) → k < length ps → Adding k t → Adding (k + 1) (less_multiple o t (o.difference 0 (get_or cs k 0)) (get_or ps k []))
+    pub adding_more : (k : ℕ) (t : List ℕ) → k < length ps → Adding k t → Adding (k + 1) (plus_multiple o t (get_or cs k 0) (get_or ps k []))
     adding_more k t h a = record {
-      packet = subtracted o laws t (o.difference 0 (get_or cs k 0)) (get_or ps k []) (adding_fit k t h a) a.packet.long;
+      packet = plus_packet t (get_or cs k 0) (get_or ps k []) (adding_fit k t h a) a.packet.long;
       total = λ j l.
-          ap (λ x. o.sum x (to_come (k + 1) j)) (get_or_less o laws t (o.difference 0 (get_or cs k 0)) (get_or ps k []) j (subst (λ (n : ℕ). j < n) (sym a.packet.long) l))
-          ∙ add_term (get_or t j 0) (get_or cs k 0) (get_or (get_or ps k []) j 0) (to_come (k + 1) j)
-          (a.packet.codes j (subst (λ (n : ℕ). j < n) (sym a.packet.long) l)) (ok.coefficients k (omega (arith, ok.as_many))) (symbol_code k j h l) (to_come_code (k + 1) j l)
+          let within : j < length t = subst (λ (n : ℕ). j < n) (sym a.packet.long) l in
+          ap (λ x. o.sum x (to_come (k + 1) j)) (at_plus t (get_or cs k 0) (get_or ps k []) j within)
+          ∙ laws.sum_assoc (get_or t j 0) (o.product (get_or cs k 0) (get_or (get_or ps k []) j 0)) (to_come (k + 1) j)
+          (a.packet.codes j within) (laws.product_closed _ _ (ok.coefficients k (omega (arith, ok.as_many))) (symbol_code k j h l)) (to_come_code (k + 1) j l)
           ∙ ap (o.sum (get_or t j 0)) (sym (to_come_more k j h)) ∙ a.total j l;
     }
-
-    pub add_fit : (k n : ℕ) (t : List ℕ) → k < length ps → Adding k t → Ok n ≡ difference_answer o 0 (get_or cs k 0) → Subtractable o.size t n (get_or ps k [])
-    add_fit k n t h a e = subst (λ (m : ℕ). Subtractable o.size t m (get_or ps k [])) (sym (negative k n h e)) (adding_fit k t h a)
-
-    pub add_turn : (k n : ℕ) (t t' : List ℕ) → k < length ps → Adding k t → Ok n ≡ difference_answer o 0 (get_or cs k 0) → t' ≡ less_multiple o t n (get_or ps k [])
-        → Adding (k + 1) t'
-    add_turn k n t t' h a e after =
-        subst (Adding (k + 1)) (sym (after ∙ ap (λ m. less_multiple o t m (get_or ps k [])) (negative k n h e))) (adding_more k t h a)
 
     pub adding_all : (k : ℕ) (t : List ℕ) → length ps ≤ k → Adding k t → t ≡ coded_row o cs ps
     adding_all k t h a =
@@ -199,9 +201,6 @@ module _ (o : Ops) (laws : Lawful o) where
       no_multiple x h =
           let k = elements o laws in
           ap (λ e. e.0) (k.mul_comm k.zero (x, h) ∙ mul-zero k (x, h))
-
-      zero_sum : (x : ℕ) → x < o.size → o.sum 0 x ≡ x
-      zero_sum x h = laws.sum_comm 0 x zero_code h ∙ laws.sum_zero x h
 
       long_coded : length coded ≡ 4
       long_coded = ap length here.sum ∙ length-map-range_with_len (coded_at o cs ps) 0 4
@@ -332,15 +331,76 @@ module _ (o : Ops) (laws : Lawful o) where
         none_turn e = taking_lost k c rest t (arrived_none k None h e)
 
       module _ (k c : ℕ) (rest : List ℕ) (t : Taking k c rest) (h : length ps ≤ k) where
-        lost_positive : 0 < c
-        lost_positive = rw (taking_all k c rest t h).0 here.takes_part
-
-        -- at the end the coefficient has an inverse, by which the rest is divided
+        -- at the end the coefficient has an inverse
         pub inverse_there : inverse_answer o c ≡ Ok (o.inverse c)
-        inverse_there = accepts_inverse o c lost_positive (c_code k c rest t)
+        inverse_there = accepts_inverse o c (rw (taking_all k c rest t h).0 here.takes_part) (c_code k c rest t)
 
-        pub inverse_code_there : (i : ℕ) → Ok i ≡ inverse_answer o c → (i ≡ o.inverse c) × (i < o.size)
-        inverse_code_there i e =
+        -- by which the rest is divided
+        pub divided : (i : ℕ) (r : Result (List ℕ) RowsFault) → Ok i ≡ inverse_answer o c → Scaled o i rest r → r ≡ Ok (get_or ps l [])
+        divided i r e by =
             let there = inverse_there in
             let same : i ≡ o.inverse c = cc in
-            (same, rw same (laws.inverse_closed c lost_positive (c_code k c rest t)))
+            by (rw same (laws.inverse_closed c (rw (taking_all k c rest t h).0 here.takes_part) (c_code k c rest t))) t.packet
+            ∙ ap Ok (ap (λ x. multiple o x rest) same ∙ (taking_all k c rest t h).1)
+
+  -- the same of terms: a turn that adds one
+  module _ (terms : List (Term (List ℕ))) (ok : Sendable o.size (coefficients terms) (packets terms)) (k : ℕ) (t : List ℕ)
+      (a : Adding (coefficients terms) (packets terms) ok k t) (d : Term (List ℕ)) (h : k < length terms) where
+    within_terms : k < length (packets terms)
+    within_terms = rw (length-map terms (λ x. x.packet)) h
+
+    pub term_fit : Subtractable o.size t (get_or terms k d).coefficient (get_or terms k d).packet
+    term_fit =
+        subst₂ (Subtractable o.size t) (coefficient_at terms k d h) (packet_at terms k d [] h)
+        (adding_fit (coefficients terms) (packets terms) ok k t within_terms a)
+
+    pub term_turn : (new : List ℕ) → new ≡ plus_multiple o t (get_or terms k d).coefficient (get_or terms k d).packet
+        → Adding (coefficients terms) (packets terms) ok (k + 1) new
+    term_turn new after =
+        subst (Adding (coefficients terms) (packets terms) ok (k + 1))
+        (sym (after ∙ ap₂ (plus_multiple o t) (sym (coefficient_at terms k d h)) (sym (packet_at terms k d [] h))))
+        (adding_more (coefficients terms) (packets terms) ok k t within_terms a)
+
+  pub terms_end : (terms : List (Term (List ℕ))) (ok : Sendable o.size (coefficients terms) (packets terms)) (k : ℕ) (t : List ℕ)
+      → Adding (coefficients terms) (packets terms) ok k t → length terms ≤ k → t ≡ coded_row o (coefficients terms) (packets terms)
+  terms_end terms ok k t a h = adding_all (coefficients terms) (packets terms) ok k t (rw (length-map terms (λ x. x.packet)) h) a
+
+  -- and the turns that take out what arrived
+  module _ (received : List (Term (Option (List ℕ)))) (coded : List ℕ) (sent : List (List ℕ)) (l : ℕ)
+      (here : Arrived o (coefficients received) sent l (packets received) coded) where
+    abbrev pub TakingTerms : ℕ → ℕ → List ℕ → Type 0
+    TakingTerms k c rest = Taking (coefficients received) sent here.sendable l (packets received) coded here k c rest
+
+    pub taking_start : TakingTerms 0 0 coded
+    taking_start = taking_none (coefficients received) sent here.sendable l (packets received) coded here
+
+    as_received : length received ≡ length sent
+    as_received = sym (length-map received (λ x. x.packet)) ∙ as_sent (coefficients received) sent here.sendable l (packets received) coded here
+
+    module _ (k c : ℕ) (rest : List ℕ) (t : TakingTerms k c rest) (d : Term (Option (List ℕ))) (h : k < length received) where
+      pub came_fit : (p : List ℕ) → (get_or received k d).packet ≡ Some p → Subtractable o.size rest (get_or received k d).coefficient p
+      came_fit p e =
+          subst (λ x. Subtractable o.size rest x p) (coefficient_at received k d h)
+          (some_fit (coefficients received) sent here.sendable l (packets received) coded here k c rest t (subst (λ (n : ℕ). k < n) as_received h)
+          p (packet_at received k d None h ∙ e))
+
+      pub came_turn : (p new : List ℕ) → (get_or received k d).packet ≡ Some p → new ≡ less_multiple o rest (get_or received k d).coefficient p
+          → TakingTerms (k + 1) c new
+      came_turn p new e after =
+          some_turn (coefficients received) sent here.sendable l (packets received) coded here k c rest t (subst (λ (n : ℕ). k < n) as_received h)
+          p new (packet_at received k d None h ∙ e) (after ∙ ap (λ x. less_multiple o rest x p) (sym (coefficient_at received k d h)))
+
+      pub lost_turn : (get_or received k d).packet ≡ None → TakingTerms (k + 1) (get_or received k d).coefficient rest
+      lost_turn e =
+          subst (λ x. TakingTerms (k + 1) x rest) (coefficient_at received k d h)
+          (none_turn (coefficients received) sent here.sendable l (packets received) coded here k c rest t (subst (λ (n : ℕ). k < n) as_received h)
+          (packet_at received k d None h ∙ e))
+
+    module _ (k c : ℕ) (rest : List ℕ) (t : TakingTerms k c rest) (h : length received ≤ k) where
+      pub end_inverse : inverse_answer o c ≡ Ok (o.inverse c)
+      end_inverse =
+          inverse_there (coefficients received) sent here.sendable l (packets received) coded here k c rest t (subst (λ (n : ℕ). n ≤ k) as_received h)
+
+      pub end_divided : (i : ℕ) (r : Result (List ℕ) RowsFault) → Ok i ≡ inverse_answer o c → Scaled o i rest r → r ≡ Ok (get_or sent l [])
+      end_divided =
+          divided (coefficients received) sent here.sendable l (packets received) coded here k c rest t (subst (λ (n : ℕ). n ≤ k) as_received h)

@@ -3,7 +3,16 @@ use Rattle.std.specs.Prelude.{◌≡◌, ℕ, ◌<◌, List, [], ◌∷◌, map,
 use Rattle.std.specs.List.{range_with_len}
 use Rattle.field.specs.Fields.{Ops}
 use Rattle.algebra.specs.Frames.{Codes, Frame}
+use Rattle.elimination.specs.Rows.{Subtractable}
 use Rattle.elimination.specs.declared.fault.RowsFault.{RowsFault}
+use Rattle.repair.specs.declared.coding.Term.{Term}
+
+-- the coefficients of terms, and their packets
+abbrev pub coefficients : {P : Type 0} → List (Term P) → List ℕ
+coefficients ts = map (λ t. t.coefficient) ts
+
+abbrev pub packets : {P : Type 0} → List (Term P) → List P
+packets ts = map (λ t. t.packet) ts
 
 -- the coded sum at one place: each coefficient times its packet's symbol there, summed
 unfoldable pub coded_at : Ops → List ℕ → List (List ℕ) → ℕ → ℕ
@@ -14,6 +23,10 @@ coded_at o (c ∷ cs) (p ∷ ps) j = o.sum (o.product c (slice_index p j)) (code
 -- the coded sum of packets of four symbols
 abbrev pub coded_row : Ops → List ℕ → List (List ℕ) → List ℕ
 coded_row o cs ps = map (coded_at o cs ps) (range_with_len 0 4)
+
+-- the row t plus f times the row s
+abbrev pub plus_multiple : Ops → List ℕ → ℕ → List ℕ → List ℕ
+plus_multiple o t f s = map (λ j. o.sum (slice_index t j) (o.product f (slice_index s j))) (range_with_len 0 (length t))
 
 -- factor times row, four symbols
 abbrev pub multiple : Ops → ℕ → List ℕ → List ℕ
@@ -36,6 +49,10 @@ pub record Arrived (o : Ops) (cs : List ℕ) (sent : List (List ℕ)) (l : ℕ) 
   pub others : received ≡ slice_set (map Some sent) l None
   pub sum : coded ≡ coded_row o cs sent
   pub takes_part : 0 < slice_index cs l
+
+-- where rows and a factor fit, the multiple is added
+abbrev pub Added : Ops → List ℕ → ℕ → List ℕ → Result (Unit {0}) RowsFault → List ℕ → Type 0
+Added o t f s r new = Subtractable o.size t f s → (r ≡ Ok tt) × (new ≡ plus_multiple o t f s)
 
 -- what can be sent is coded
 abbrev pub Coded : Ops → List ℕ → List (List ℕ) → Result (List ℕ) RowsFault → Type 0

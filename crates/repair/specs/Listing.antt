@@ -1,10 +1,13 @@
 -- What the program lists of a repair. Assumes nothing.
-use Rattle.std.specs.Prelude.{◌≡◌, ℕ, List, [], ◌∷◌, ◌++◌, codes, slice_index_or}
+use Rattle.std.specs.Prelude.{◌≡◌, ℕ, ◌^◌, ◌-◌, List, [], ◌∷◌, ◌++◌, Option, Some, None, codes, slice_index_or}
+use Rattle.std.specs.Fmt.{format_spec, padded, styled_decimal}
+use Rattle.std.specs.List.{flat_map}
+use Rattle.repair.specs.Coding.{coefficients, packets}
 use Rattle.repair.specs.declared.coding.Load.{Load}
 use Rattle.repair.specs.declared.coding.Repaired.{Repaired}
 use Rattle.repair.specs.declared.listing.Line.{Line}
 use Rattle.repair.specs.declared.listing.Remark.{Remark}
-use Rattle.repair.specs.declared.listing.Remark.TheVariants.{Nothing, Lost, Equal, Different}
+use Rattle.repair.specs.declared.listing.Remark.TheVariants.{Lost, Equal, Different}
 use Rattle.repair.specs.declared.listing.Word.{Word}
 use Rattle.repair.specs.declared.listing.Word.TheVariants.{Sent, Coded, Rebuilt}
 
@@ -14,18 +17,32 @@ word_text Coded = codes "coded"
 word_text Rebuilt = codes "rebuilt"
 
 abbrev pub remark_text : Remark → List ℕ
-remark_text Nothing = []
 remark_text Lost = codes "  lost on the way"
 remark_text Equal = codes "  equals what was sent"
 remark_text Different = codes "  differs from what was sent"
 
+-- what stands at the end of a line
+abbrev pub end_text : Option Remark → List ℕ
+end_text None = []
+end_text (Some r) = remark_text r
+
+-- a word as `{:<8}` prints it, and a code as ` {:>3}` does
+abbrev pub word_column : Word → List ℕ
+word_column w = padded (format_spec 32 1 0 8 (2 ^ 64 - 1)) (word_text w)
+
+abbrev pub code_column : ℕ → List ℕ
+code_column c = codes " " ++ styled_decimal (format_spec 32 3 0 3 (2 ^ 64 - 1)) c
+
+-- a line as it is printed: the word, the codes of the frame and the remark, in columns
+abbrev pub line_text : Line → List ℕ
+line_text line = codes "  " ++ (word_column line.word ++ (flat_map code_column line.frame ++ end_text line.remark))
+
 -- a line: what the frame is, its coefficients and symbols, and a remark
-abbrev pub line_of : Word → List ℕ → List ℕ → Remark → Line
+abbrev pub line_of : Word → List ℕ → List ℕ → Option Remark → Line
 line_of w cs symbols r = record { word = w; frame = cs ++ symbols; remark = r }
 
 -- the remark on a rebuilt packet is right
 abbrev pub Compared : List ℕ → List ℕ → Remark → Type 0
-Compared rebuilt sent Nothing = ⊥
 Compared rebuilt sent Lost = ⊥
 Compared rebuilt sent Equal = rebuilt ≡ sent
 Compared rebuilt sent Different = rebuilt ≡ sent → ⊥
@@ -33,10 +50,10 @@ Compared rebuilt sent Different = rebuilt ≡ sent → ⊥
 -- the frames of a load with its second packet lost: three sent, one coded, one rebuilt, each with its remark
 pub record Listed (load : Load) (repaired : Repaired) (lines : List Line) : Type 0 where
   pub remark : Remark
-  pub right : Compared repaired.rebuilt (slice_index_or load.packets 1 []) remark
-  pub are : lines ≡ line_of Sent (1 ∷ 0 ∷ 0 ∷ []) (slice_index_or load.packets 0 []) Nothing
-      ∷ line_of Sent (0 ∷ 1 ∷ 0 ∷ []) (slice_index_or load.packets 1 []) Lost
-      ∷ line_of Sent (0 ∷ 0 ∷ 1 ∷ []) (slice_index_or load.packets 2 []) Nothing
-      ∷ line_of Coded load.coefficients repaired.coded Nothing
-      ∷ line_of Rebuilt (0 ∷ 1 ∷ 0 ∷ []) repaired.rebuilt remark
+  pub right : Compared repaired.rebuilt (slice_index_or (packets load.terms) 1 []) remark
+  pub are : lines ≡ line_of Sent (1 ∷ 0 ∷ 0 ∷ []) (slice_index_or (packets load.terms) 0 []) None
+      ∷ line_of Sent (0 ∷ 1 ∷ 0 ∷ []) (slice_index_or (packets load.terms) 1 []) (Some Lost)
+      ∷ line_of Sent (0 ∷ 0 ∷ 1 ∷ []) (slice_index_or (packets load.terms) 2 []) None
+      ∷ line_of Coded (coefficients load.terms) repaired.coded None
+      ∷ line_of Rebuilt (0 ∷ 1 ∷ 0 ∷ []) repaired.rebuilt (Some remark)
       ∷ []

@@ -1,6 +1,7 @@
 // A coded sum of packets, and the repair of a lost one by row subtraction and an inverse.
-ghost use Rattle.repair.specs.Coding.{Coded, Scaled, Rebuilt};
+ghost use Rattle.repair.specs.Coding.{Added, Coded, Scaled, Rebuilt, coefficients, packets};
 ghost use Rattle.repair.specs.Repair.{Survived};
+ghost use Rattle.std.specs.Prelude.{◌≡◌};
 
 use elimination::fault::RowsFault;
 use elimination::rows::subtract_multiple;
@@ -9,21 +10,44 @@ use field::Field;
 // Four symbols, each a code.
 pub type Packet = [u16; 4];
 
-// The coded sum: each packet times its coefficient, summed. Taking away a negative multiple adds the multiple.
-fn coded_sum<F: Field>(
-    field: &F,
-    coefficients: &[u16],
-    packets: &[Packet],
-) -> Result<Packet, RowsFault>
-    ensures { Coded (F.ops field.now) coefficients.now packets.now result }
-{
-    if coefficients.len() != packets.len() {
-        return Err(RowsFault::WrongLength);
+// A packet, or what arrived of it, and its coefficient in the coded sum.
+#[derive(Clone, Copy)]
+pub struct Term<P> {
+    pub coefficient: u16,
+    pub packet: P,
+}
+
+impl<P: Copy> Term<P> {
+    pub fn new(coefficient: u16, packet: P) -> Term<P>
+        ensures { result ≡ record { coefficient = coefficient; packet = packet } }
+    {
+        Term {
+            coefficient,
+            packet,
+        }
     }
+}
+
+// Adds the factor times the row. Taking away a negative multiple adds the multiple.
+fn add_multiple<F: Field>(
+    field: &F,
+    target: &mut Packet,
+    factor: u16,
+    row: &Packet,
+) -> Result<(), RowsFault>
+    ensures { Added (F.ops field.now) target.old factor row.now result target.new }
+{
+    let negative = field.difference(0, factor)?;
+    subtract_multiple(field, target, negative, row)
+}
+
+// The coded sum: each packet times its coefficient, summed.
+fn coded_sum<F: Field>(field: &F, terms: &[Term<Packet>]) -> Result<Packet, RowsFault>
+    ensures { Coded (F.ops field.now) (coefficients terms.now) (packets terms.now) result }
+{
     let mut sum = [0; 4];
-    for k in 0..packets.len() {
-        let negative = field.difference(0, coefficients[k])?;
-        subtract_multiple(field, &mut sum, negative, &packets[k])?;
+    for term in terms {
+        add_multiple(field, &mut sum, term.coefficient, &term.packet)?;
     }
     Ok(sum)
 }
@@ -33,29 +57,24 @@ fn scaled<F: Field>(field: &F, factor: u16, row: &Packet) -> Result<Packet, Rows
     ensures { Scaled (F.ops field.now) factor row.now result }
 {
     let mut product = [0; 4];
-    let negative = field.difference(0, factor)?;
-    subtract_multiple(field, &mut product, negative, row)?;
+    add_multiple(field, &mut product, factor, row)?;
     Ok(product)
 }
 
 // The lost packet: every packet that arrived is taken out of the coded sum, and the rest divided by the lost one's coefficient.
 fn rebuild<F: Field>(
     field: &F,
-    coefficients: &[u16],
-    received: &[Option<Packet>],
+    received: &[Term<Option<Packet>>],
     coded: &Packet,
 ) -> Result<Packet, RowsFault>
-    ensures { Rebuilt (F.ops field.now) coefficients.now received.now coded.now result }
+    ensures { Rebuilt (F.ops field.now) (coefficients received.now) (packets received.now) coded.now result }
 {
-    if coefficients.len() != received.len() {
-        return Err(RowsFault::WrongLength);
-    }
     let mut rest = *coded;
     let mut lost = 0;
-    for k in 0..received.len() {
-        match &received[k] {
-            Some(packet) => subtract_multiple(field, &mut rest, coefficients[k], packet)?,
-            None => lost = coefficients[k],
+    for term in received {
+        match &term.packet {
+            Some(packet) => subtract_multiple(field, &mut rest, term.coefficient, packet)?,
+            None => lost = term.coefficient,
         }
     }
     let inverse = field.inverse(lost)?;
@@ -65,8 +84,7 @@ fn rebuild<F: Field>(
 // Three packets, and the coefficient of each in the coded sum.
 #[derive(Clone, Copy)]
 pub struct Load {
-    pub coefficients: [u16; 3],
-    pub packets: [Packet; 3],
+    pub terms: [Term<Packet>; 3],
 }
 
 // What the receiver has of a load: the coded sum, and the packet that it rebuilt.
@@ -78,10 +96,15 @@ pub struct Repaired {
 
 // Sends the packets and their coded sum, loses the second packet, and rebuilds it from the rest.
 pub fn send_with_loss<F: Field>(field: &F, load: &Load) -> Result<Repaired, RowsFault>
-    ensures { Survived (F.ops field.now) load.now.coefficients load.now.packets result }
+    ensures { Survived (F.ops field.now) (coefficients load.now.terms) (packets load.now.terms) result }
 {
-    let coded = coded_sum(field, &load.coefficients, &load.packets)?;
-    let received = [Some(load.packets[0]), None, Some(load.packets[2])];
-    let rebuilt = rebuild(field, &load.coefficients, &received, &coded)?;
+    let coded = coded_sum(field, &load.terms)?;
+    let [first, second, third] = load.terms;
+    let received = [
+        Term::new(first.coefficient, Some(first.packet)),
+        Term::new(second.coefficient, None),
+        Term::new(third.coefficient, Some(third.packet)),
+    ];
+    let rebuilt = rebuild(field, &received, &coded)?;
     Ok(Repaired { coded, rebuilt })
 }

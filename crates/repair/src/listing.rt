@@ -1,8 +1,10 @@
 // What the program lists of a repair: a line for each frame.
-ghost use Rattle.std.specs.Prelude.{◌≡◌};
-ghost use Rattle.repair.specs.Listing.{word_text, remark_text, line_of, Compared, Listed};
+ghost use Rattle.std.specs.Prelude.{◌≡◌, Some};
+ghost use Rattle.std.specs.Fmt.{padded};
+ghost use Rattle.repair.specs.Listing.{word_text, remark_text, line_text, line_of, Compared, Listed};
 
 use super::coding::{Load, Packet, Repaired};
+use std::fmt;
 
 // A frame: three coefficients, then four symbols.
 pub type Frame = [u16; 7];
@@ -18,7 +20,6 @@ pub enum Word {
 // What is to be said of it.
 #[derive(Clone, Copy)]
 pub enum Remark {
-    Nothing,
     Lost,
     Equal,
     Different,
@@ -28,36 +29,37 @@ pub enum Remark {
 pub struct Line {
     pub word: Word,
     pub frame: Frame,
-    pub remark: Remark,
+    pub remark: Option<Remark>,
 }
 
-impl Word {
-    pub fn text(self) -> &'static str
-        ensures { result.now ≡ word_text self }
-    {
-        match self {
+impl fmt::Display for Word {
+    ghost output = { λ w. Some (word_text w) };
+
+    ghost styled_output = { λ w spec. Some (padded spec (word_text w)) };
+
+    fn fmt<W: fmt::Write>(&self, f: &mut fmt::Formatter<W>) -> fmt::Result {
+        f.pad(match self {
             Word::Sent => "sent",
             Word::Coded => "coded",
             Word::Rebuilt => "rebuilt",
-        }
+        })
     }
 }
 
-impl Remark {
-    pub fn text(self) -> &'static str
-        ensures { result.now ≡ remark_text self }
-    {
-        match self {
-            Remark::Nothing => "",
+impl fmt::Display for Remark {
+    ghost output = { λ r. Some (remark_text r) };
+
+    fn fmt<W: fmt::Write>(&self, f: &mut fmt::Formatter<W>) -> fmt::Result {
+        f.write_str(match self {
             Remark::Lost => "  lost on the way",
             Remark::Equal => "  equals what was sent",
             Remark::Different => "  differs from what was sent",
-        }
+        })
     }
 }
 
 impl Line {
-    fn new(word: Word, coefficients: &[u16; 3], packet: &Packet, remark: Remark) -> Line
+    fn new(word: Word, coefficients: &[u16; 3], packet: &Packet, remark: Option<Remark>) -> Line
         ensures { result ≡ line_of word coefficients.now packet.now remark }
     {
         let [a, b, c] = *coefficients;
@@ -67,6 +69,22 @@ impl Line {
             word,
             frame,
             remark,
+        }
+    }
+}
+
+impl fmt::Display for Line {
+    ghost output = { λ line. Some (line_text line) };
+
+    fn fmt<W: fmt::Write>(&self, f: &mut fmt::Formatter<W>) -> fmt::Result {
+        let word = self.word;
+        write!(f, "  {word:<8}")?;
+        for code in &self.frame {
+            write!(f, " {code:>3}")?;
+        }
+        match self.remark {
+            Some(remark) => write!(f, "{remark}"),
+            None => Ok(()),
         }
     }
 }
@@ -86,22 +104,14 @@ fn compare(rebuilt: &Packet, sent: &Packet) -> Remark
 pub fn lines(load: &Load, repaired: &Repaired) -> [Line; 5]
     ensures { Listed load.now repaired.now result }
 {
-    let packets = &load.packets;
+    let [first, second, third] = load.terms;
+    let coefficients = [first.coefficient, second.coefficient, third.coefficient];
+    let remark = compare(&repaired.rebuilt, &second.packet);
     [
-        Line::new(Word::Sent, &[1, 0, 0], &packets[0], Remark::Nothing),
-        Line::new(Word::Sent, &[0, 1, 0], &packets[1], Remark::Lost),
-        Line::new(Word::Sent, &[0, 0, 1], &packets[2], Remark::Nothing),
-        Line::new(
-            Word::Coded,
-            &load.coefficients,
-            &repaired.coded,
-            Remark::Nothing,
-        ),
-        Line::new(
-            Word::Rebuilt,
-            &[0, 1, 0],
-            &repaired.rebuilt,
-            compare(&repaired.rebuilt, &packets[1]),
-        ),
+        Line::new(Word::Sent, &[1, 0, 0], &first.packet, None),
+        Line::new(Word::Sent, &[0, 1, 0], &second.packet, Some(Remark::Lost)),
+        Line::new(Word::Sent, &[0, 0, 1], &third.packet, None),
+        Line::new(Word::Coded, &coefficients, &repaired.coded, None),
+        Line::new(Word::Rebuilt, &[0, 1, 0], &repaired.rebuilt, Some(remark)),
     ]
 }

@@ -1,35 +1,32 @@
-use Rattle.std.proofs.Common.{[], get_or, Ok, refl, ap, rules}
-use Rattle.elimination.proofs.Subtraction.{never_refused}
-use Rattle.repair.proofs.Repairs.{adding_none, add_fit, add_turn, adding_all}
+use Rattle.std.proofs.Common.{Ok, refl, ap}
+use Rattle.repair.specs.Coding.{coefficients, packets}
+use Rattle.repair.proofs.Repairs.{adding_none, terms_end, term_fit, term_turn}
 use Rattle.repair.proofs.coding.coded_sum.Goals as goal
 
-pub loop-k-init : goal.loop-k-init
-loop-k-init g c =
+pub loop-term-init : goal.loop-term-init
+loop-term-init g c =
+    (refl, λ ok. adding_none (g.F.Field.ops c.args.field.now) (g.met.F.Field.lawful c.args.field.now) (coefficients c.args.terms.now) (packets c.args.terms.now) ok)
+
+pub loop-term-preserved : goal.loop-term-preserved
+loop-term-preserved g c =
     let o = g.F.Field.ops c.args.field.now in
     let laws = g.met.F.Field.lawful c.args.field.now in
-    (refl, λ ok. adding_none o laws c.args.coefficients.now c.args.packets.now ok)
-
-pub loop-k-preserved : goal.loop-k-preserved
-loop-k-preserved g c =
-    let o = g.F.Field.ops c.args.field.now in
-    let laws = g.met.F.Field.lawful c.args.field.now in (
-      search rules,
-      λ ok.
-          add_turn o laws c.args.coefficients.now c.args.packets.now ok c.loop-k.k c.in_ok-negative.negative c.loop-k.sum c.subtract_multiple.new.target
-          c.loop-k-test.true (c.loop-k.invariant.1 ok) c.in_ok-negative.ensures c.in_ok-subtract_multiple.ensures.after,
+    let ts = c.args.terms.now in
+    let k = c.loop-term.term-index in (
+      c.type_inv.sum,
+      λ ok. term_turn o laws ts ok k c.loop-term.sum (c.loop-term.invariant.1 ok) _ c.loop-term-test.true c.add_multiple.new.target
+          (c.add_multiple.ensures (term_fit o laws ts ok k c.loop-term.sum (c.loop-term.invariant.1 ok) _ c.loop-term-test.true)).1,
     )
 
-pub returns-in_err-subtract_multiple : goal.returns-in_err-subtract_multiple
-returns-in_err-subtract_multiple g c ok =
+pub returns-in_err-add_multiple : goal.returns-in_err-add_multiple
+returns-in_err-add_multiple g c ok =
     let o = g.F.Field.ops c.args.field.now in
     let laws = g.met.F.Field.lawful c.args.field.now in
-    absurd (never_refused o.size c.loop-k.sum c.in_ok-negative.negative (get_or c.args.packets.now c.loop-k.k []) c.in_err-subtract_multiple.field-0.0
-    (add_fit o laws c.args.coefficients.now c.args.packets.now ok c.loop-k.k c.in_ok-negative.negative c.loop-k.sum
-    c.loop-k-test.true (c.loop-k.invariant.1 ok) c.in_ok-negative.ensures)
-    c.in_err-subtract_multiple.ensures.answer)
+    let fit = term_fit o laws c.args.terms.now ok c.loop-term.term-index c.loop-term.sum (c.loop-term.invariant.1 ok) _ c.loop-term-test.true in
+    let done = c.in_err-add_multiple.ensures fit in
+    absurd (cc (done.0))
 
 pub returns : goal.returns
 returns g c ok =
-    let o = g.F.Field.ops c.args.field.now in
-    let laws = g.met.F.Field.lawful c.args.field.now in
-    ap Ok (adding_all o laws c.args.coefficients.now c.args.packets.now ok c.loop-k.k c.loop-k.sum c.loop-k-test.false (c.loop-k.invariant.1 ok))
+    ap Ok (terms_end (g.F.Field.ops c.args.field.now) (g.met.F.Field.lawful c.args.field.now) c.args.terms.now ok
+    c.loop-term.term-index c.loop-term.sum (c.loop-term.invariant.1 ok) c.loop-term-test.false)

@@ -1,10 +1,11 @@
 use Rattle.std.proofs.Common.{◌≡◌, length}
-use Rattle.repair.specs.Coding.{Sendable}
+use Rattle.repair.specs.Coding.{Sendable, coefficients, packets}
 use Rattle.repair.proofs.Repairs.{Adding}
 use Rattle.repair.proofs.coding.coded_sum.Given as goal
 
-abbrev pub invariant-loop-k : goal.invariant-loop-k
-invariant-loop-k g l =
+abbrev pub invariant-loop-term : goal.invariant-loop-term
+invariant-loop-term g l =
     let o = g.F.Field.ops l.field in
-    let laws = g.met.F.Field.lawful l.field in
-    (length l.sum ≡ 4) × ((ok : Sendable o.size l.coefficients l.packets) → Adding o laws l.coefficients l.packets ok l.k l.sum)
+    (length l.sum ≡ 4)
+    × ((ok : Sendable o.size (coefficients l.terms) (packets l.terms))
+    → Adding o (g.met.F.Field.lawful l.field) (coefficients l.terms) (packets l.terms) ok l.term-index l.sum)
