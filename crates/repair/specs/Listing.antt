@@ -1,6 +1,5 @@
 -- What the program lists of a repair. Assumes nothing.
-use Rattle.std.specs.Prelude.{◌≡◌, ℕ, ◌^◌, ◌-◌, List, [], ◌∷◌, ◌++◌, Option, Some, None, codes, slice_index_or}
-use Rattle.std.specs.Fmt.{format_spec, padded, styled_decimal}
+use Rattle.std.specs.Prelude.{◌≡◌, ℕ, ◌-◌, List, [], ◌∷◌, ◌++◌, length, replicate, Option, Some, None, codes, decimal, slice_index_or}
 use Rattle.std.specs.List.{flat_map}
 use Rattle.repair.specs.Coding.{coefficients, packets}
 use Rattle.repair.specs.declared.coding.Load.{Load}
@@ -26,16 +25,20 @@ abbrev pub end_text : Option Remark → List ℕ
 end_text None = []
 end_text (Some r) = remark_text r
 
--- a word as `{:<8}` prints it, and a code as ` {:>3}` does
-abbrev pub word_column : Word → List ℕ
-word_column w = padded (format_spec 32 1 0 8 (2 ^ 64 - 1)) (word_text w)
+-- a text in a column of n places, filled up with spaces: at the left, or at the right
+abbrev pub at_left : ℕ → List ℕ → List ℕ
+at_left n text = text ++ replicate (n - length text) 32
 
-abbrev pub code_column : ℕ → List ℕ
-code_column c = codes " " ++ styled_decimal (format_spec 32 3 0 3 (2 ^ 64 - 1)) c
+abbrev pub at_right : ℕ → List ℕ → List ℕ
+at_right n text = replicate (n - length text) 32 ++ text
 
--- a line as it is printed: the word, the codes of the frame and the remark, in columns
+-- a code of a frame, set off by a space
+abbrev pub code_text : ℕ → List ℕ
+code_text c = codes " " ++ at_right 3 (decimal c)
+
+-- a line as it is printed, in columns: the word, the codes of the frame, the remark
 abbrev pub line_text : Line → List ℕ
-line_text line = codes "  " ++ (word_column line.word ++ (flat_map code_column line.frame ++ end_text line.remark))
+line_text line = codes "  " ++ (at_left 8 (word_text line.word) ++ (flat_map code_text line.frame ++ end_text line.remark))
 
 -- a line: what the frame is, its coefficients and symbols, and a remark
 abbrev pub line_of : Word → List ℕ → List ℕ → Option Remark → Line
