@@ -344,63 +344,72 @@ module _ (o : Ops) (laws : Lawful o) where
             ∙ ap Ok (ap (λ x. multiple o x rest) same ∙ (taking_all k c rest t h).1)
 
   -- the same of terms: a turn that adds one
-  module _ (terms : List (Term (List ℕ))) (ok : Sendable o.size (coefficients terms) (packets terms)) (k : ℕ) (t : List ℕ)
-      (a : Adding (coefficients terms) (packets terms) ok k t) (d : Term (List ℕ)) (h : k < length terms) where
-    within_terms : k < length (packets terms)
-    within_terms = rw (length-map terms (λ x. x.packet)) h
+  module _ (terms : List (Term (List ℕ))) (ok : Sendable o.size (coefficients terms) (packets terms)) where
+    abbrev pub AddingTerms : ℕ → List ℕ → Type 0
+    AddingTerms k t = Adding (coefficients terms) (packets terms) ok k t
 
-    pub term_fit : Subtractable o.size t (get_or terms k d).coefficient (get_or terms k d).packet
-    term_fit =
-        subst₂ (Subtractable o.size t) (coefficient_at terms k d h) (packet_at terms k d [] h)
-        (adding_fit (coefficients terms) (packets terms) ok k t within_terms a)
+    pub terms_none : AddingTerms 0 blank
+    terms_none = adding_none (coefficients terms) (packets terms) ok
 
-    pub term_turn : (new : List ℕ) → new ≡ plus_multiple o t (get_or terms k d).coefficient (get_or terms k d).packet
-        → Adding (coefficients terms) (packets terms) ok (k + 1) new
-    term_turn new after =
-        subst (Adding (coefficients terms) (packets terms) ok (k + 1))
-        (sym (after ∙ ap₂ (plus_multiple o t) (sym (coefficient_at terms k d h)) (sym (packet_at terms k d [] h))))
-        (adding_more (coefficients terms) (packets terms) ok k t within_terms a)
+    module _ (k : ℕ) (t : List ℕ) (a : AddingTerms k t) where
+      pub terms_all : length terms ≤ k → t ≡ coded_row o (coefficients terms) (packets terms)
+      terms_all h = adding_all (coefficients terms) (packets terms) ok k t (rw (length-map terms (λ x. x.packet)) h) a
 
-  pub terms_end : (terms : List (Term (List ℕ))) (ok : Sendable o.size (coefficients terms) (packets terms)) (k : ℕ) (t : List ℕ)
-      → Adding (coefficients terms) (packets terms) ok k t → length terms ≤ k → t ≡ coded_row o (coefficients terms) (packets terms)
-  terms_end terms ok k t a h = adding_all (coefficients terms) (packets terms) ok k t (rw (length-map terms (λ x. x.packet)) h) a
+      module _ (d : Term (List ℕ)) (h : k < length terms) where
+        within_packets : k < length (packets terms)
+        within_packets = rw (length-map terms (λ x. x.packet)) h
+
+        pub term_turn : (r : Result (Unit {0}) RowsFault) (new : List ℕ) → Added o t (get_or terms k d).coefficient (get_or terms k d).packet r new
+            → (r ≡ Ok tt) × AddingTerms (k + 1) new
+        term_turn r new added = (there.0, subst (AddingTerms (k + 1)) (sym there.1) (adding_more (coefficients terms) (packets terms) ok k t within_packets a))
+          where
+            there : (r ≡ Ok tt) × (new ≡ plus_multiple o t (get_or (coefficients terms) k 0) (get_or (packets terms) k []))
+            there =
+                subst₂ (λ c p. Added o t c p r new) (sym (coefficient_at terms k d h)) (sym (packet_at terms k d [] h)) added
+                (adding_fit (coefficients terms) (packets terms) ok k t within_packets a)
 
   -- and the turns that take out what arrived
   module _ (received : List (Term (Option (List ℕ)))) (coded : List ℕ) (sent : List (List ℕ)) (l : ℕ)
       (here : Arrived o (coefficients received) sent l (packets received) coded) where
-    abbrev pub TakingTerms : ℕ → ℕ → List ℕ → Type 0
-    TakingTerms k c rest = Taking (coefficients received) sent here.sendable l (packets received) coded here k c rest
+    abbrev cs : List ℕ
+    cs = coefficients received
 
-    pub taking_start : TakingTerms 0 0 coded
-    taking_start = taking_none (coefficients received) sent here.sendable l (packets received) coded here
+    abbrev came : List (Option (List ℕ))
+    came = packets received
+
+    abbrev pub TakingTerms : ℕ → ℕ → List ℕ → Type 0
+    TakingTerms k c rest = Taking cs sent here.sendable l came coded here k c rest
+
+    pub terms_whole : TakingTerms 0 0 coded
+    terms_whole = taking_none cs sent here.sendable l came coded here
 
     as_received : length received ≡ length sent
-    as_received = sym (length-map received (λ x. x.packet)) ∙ as_sent (coefficients received) sent here.sendable l (packets received) coded here
+    as_received = sym (length-map received (λ x. x.packet)) ∙ as_sent cs sent here.sendable l came coded here
 
-    module _ (k c : ℕ) (rest : List ℕ) (t : TakingTerms k c rest) (d : Term (Option (List ℕ))) (h : k < length received) where
-      pub came_fit : (p : List ℕ) → (get_or received k d).packet ≡ Some p → Subtractable o.size rest (get_or received k d).coefficient p
-      came_fit p e =
-          subst (λ x. Subtractable o.size rest x p) (coefficient_at received k d h)
-          (some_fit (coefficients received) sent here.sendable l (packets received) coded here k c rest t (subst (λ (n : ℕ). k < n) as_received h)
-          p (packet_at received k d None h ∙ e))
+    module _ (k c : ℕ) (rest : List ℕ) (t : TakingTerms k c rest) where
+      module _ (d : Term (Option (List ℕ))) (h : k < length received) where
+        within_sent : k < length sent
+        within_sent = subst (λ (n : ℕ). k < n) as_received h
 
-      pub came_turn : (p new : List ℕ) → (get_or received k d).packet ≡ Some p → new ≡ less_multiple o rest (get_or received k d).coefficient p
-          → TakingTerms (k + 1) c new
-      came_turn p new e after =
-          some_turn (coefficients received) sent here.sendable l (packets received) coded here k c rest t (subst (λ (n : ℕ). k < n) as_received h)
-          p new (packet_at received k d None h ∙ e) (after ∙ ap (λ x. less_multiple o rest x p) (sym (coefficient_at received k d h)))
+        pub came_fit : (p : List ℕ) → (get_or received k d).packet ≡ Some p → Subtractable o.size rest (get_or received k d).coefficient p
+        came_fit p e =
+            subst (λ x. Subtractable o.size rest x p) (coefficient_at received k d h)
+            (some_fit cs sent here.sendable l came coded here k c rest t within_sent p (packet_at received k d None h ∙ e))
 
-      pub lost_turn : (get_or received k d).packet ≡ None → TakingTerms (k + 1) (get_or received k d).coefficient rest
-      lost_turn e =
-          subst (λ x. TakingTerms (k + 1) x rest) (coefficient_at received k d h)
-          (none_turn (coefficients received) sent here.sendable l (packets received) coded here k c rest t (subst (λ (n : ℕ). k < n) as_received h)
-          (packet_at received k d None h ∙ e))
+        pub came_turn : (p new : List ℕ) → (get_or received k d).packet ≡ Some p → new ≡ less_multiple o rest (get_or received k d).coefficient p
+            → TakingTerms (k + 1) c new
+        came_turn p new e after =
+            some_turn cs sent here.sendable l came coded here k c rest t within_sent p new (packet_at received k d None h ∙ e)
+            (after ∙ ap (λ x. less_multiple o rest x p) (sym (coefficient_at received k d h)))
 
-    module _ (k c : ℕ) (rest : List ℕ) (t : TakingTerms k c rest) (h : length received ≤ k) where
-      pub end_inverse : inverse_answer o c ≡ Ok (o.inverse c)
-      end_inverse =
-          inverse_there (coefficients received) sent here.sendable l (packets received) coded here k c rest t (subst (λ (n : ℕ). n ≤ k) as_received h)
+        pub lost_turn : (get_or received k d).packet ≡ None → TakingTerms (k + 1) (get_or received k d).coefficient rest
+        lost_turn e =
+            subst (λ x. TakingTerms (k + 1) x rest) (coefficient_at received k d h)
+            (none_turn cs sent here.sendable l came coded here k c rest t within_sent (packet_at received k d None h ∙ e))
 
-      pub end_divided : (i : ℕ) (r : Result (List ℕ) RowsFault) → Ok i ≡ inverse_answer o c → Scaled o i rest r → r ≡ Ok (get_or sent l [])
-      end_divided =
-          divided (coefficients received) sent here.sendable l (packets received) coded here k c rest t (subst (λ (n : ℕ). n ≤ k) as_received h)
+      module _ (h : length received ≤ k) where
+        pub end_inverse : inverse_answer o c ≡ Ok (o.inverse c)
+        end_inverse = inverse_there cs sent here.sendable l came coded here k c rest t (subst (λ (n : ℕ). n ≤ k) as_received h)
+
+        pub end_divided : (i : ℕ) (r : Result (List ℕ) RowsFault) → Ok i ≡ inverse_answer o c → Scaled o i rest r → r ≡ Ok (get_or sent l [])
+        end_divided = divided cs sent here.sendable l came coded here k c rest t (subst (λ (n : ℕ). n ≤ k) as_received h)

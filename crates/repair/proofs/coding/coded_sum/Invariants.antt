@@ -1,6 +1,6 @@
 use Rattle.std.proofs.Common.{◌≡◌, length}
 use Rattle.repair.specs.Coding.{Sendable, coefficients, packets}
-use Rattle.repair.proofs.Repairs.{Adding}
+use Rattle.repair.proofs.Repairs.{AddingTerms}
 use Rattle.repair.proofs.coding.coded_sum.Given as goal
 
 abbrev pub invariant-loop-term : goal.invariant-loop-term
@@ -8,4 +8,4 @@ invariant-loop-term g l =
     let o = g.F.Field.ops l.field in
     (length l.sum ≡ 4)
     × ((ok : Sendable o.size (coefficients l.terms) (packets l.terms))
-    → Adding o (g.met.F.Field.lawful l.field) (coefficients l.terms) (packets l.terms) ok l.term-index l.sum)
+    → AddingTerms o (g.met.F.Field.lawful l.field) l.terms ok l.term-index l.sum)

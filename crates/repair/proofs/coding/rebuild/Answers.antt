@@ -1,12 +1,12 @@
 use Rattle.std.proofs.Common.{◌+◌, sym, subst₂, rules}
 use Rattle.elimination.proofs.Subtraction.{never_refused}
-use Rattle.repair.proofs.Repairs.{TakingTerms, taking_start, came_fit, came_turn, lost_turn, end_inverse, end_divided}
+use Rattle.repair.proofs.Repairs.{TakingTerms, terms_whole, came_fit, came_turn, lost_turn, end_inverse, end_divided}
 use Rattle.repair.proofs.coding.rebuild.Goals as goal
 use Rattle.repair.proofs.coding.rebuild.Goals.{in-Some+in_ok-subtract_multiple-in-Some, in-None}
 
 pub loop-term-init : goal.loop-term-init
 loop-term-init g c =
-    (c.told-coded, λ sent l here. taking_start (g.F.Field.ops c.args.field.now) (g.met.F.Field.lawful c.args.field.now) c.args.received.now c.args.coded.now sent l here)
+    (c.told-coded, λ sent l here. terms_whole (g.F.Field.ops c.args.field.now) (g.met.F.Field.lawful c.args.field.now) c.args.received.now c.args.coded.now sent l here)
 
 pub loop-term-preserved : goal.loop-term-preserved
 loop-term-preserved g c =
