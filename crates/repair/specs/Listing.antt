@@ -10,17 +10,19 @@ use Rattle.repair.specs.declared.listing.Remark.TheVariants.{Lost, Equal, Differ
 use Rattle.repair.specs.declared.listing.Word.{Word}
 use Rattle.repair.specs.declared.listing.Word.TheVariants.{Sent, Coded, Rebuilt}
 
+-- what a frame is, in a word
 abbrev pub word_text : Word → List ℕ
 word_text Sent = codes "sent"
 word_text Coded = codes "coded"
 word_text Rebuilt = codes "rebuilt"
 
+-- a remark, set off by two spaces
 abbrev pub remark_text : Remark → List ℕ
 remark_text Lost = codes "  lost on the way"
 remark_text Equal = codes "  equals what was sent"
 remark_text Different = codes "  differs from what was sent"
 
--- what stands at the end of a line
+-- what ends a line: a remark, or nothing
 abbrev pub end_text : Option Remark → List ℕ
 end_text None = []
 end_text (Some r) = remark_text r

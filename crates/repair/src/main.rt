@@ -20,7 +20,7 @@ fn print_repair<F: Field>(rt: &HostRuntime, name: &str, field: &F, load: &Load) 
         Ok(repaired) => repaired,
         Err(fault) => return println!(rt; "  {}", fault.refusal()),
     };
-    for line in &lines(load, &repaired) {
+    for line in lines(load, &repaired) {
         println!(rt; "{line}")?;
     }
     Ok(())
