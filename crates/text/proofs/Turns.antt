@@ -13,8 +13,8 @@ use Rattle.text.specs.Tables.{lists}
 use Rattle.text.specs.Scripts.{lines_before, first_fault, ReadTo}
 
 -- what `map_err` told of a line that was not read
-pub mapped : {X : Type 0} (Q : Unread → ScriptFault → Type 0) (r : Result X Unread) (s : Result X ScriptFault) {e : ScriptFault} → MatchResult r (λ x. s ≡ Ok x) (λ u. IsErrAnd s (Q u)) → s ≡ Err e
-    → (u : Unread) × (r ≡ Err u) × Q u e
+pub mapped : {X : Type 0} (Q : Unread LineFault → Unread ScriptFault → Type 0) (r : Result X (Unread LineFault)) (s : Result X (Unread ScriptFault)) {e : Unread ScriptFault} → MatchResult r (λ x. s ≡ Ok x) (λ u. IsErrAnd s (Q u)) → s ≡ Err e
+    → (u : Unread LineFault) × (r ≡ Err u) × Q u e
 mapped Q (Ok x) s h is = cc
 mapped Q (Err u) s h is = (u, refl, subst (λ t. IsErrAnd t (Q u)) is h)
 
@@ -46,6 +46,6 @@ module _ {all done : List (List ℕ)} {w : Option ℕ} {n : ℕ} {line : List �
   unfolding lines_before first_fault
   line_refused h = (s.fault ∙ ap fault_by h, sym (s.lines ∙ ap (λ r. done ++ lines_by r) h ∙ append-nil done))
 
-  pub line_unread : (u : Unread) → ReadAs (line_answer 1 w line) (Err u) → (read : List (Vec ℕ Global)) → done ≡ lists read → ReadTo (first_fault None 1 all) (lines_before None all) read (Err (at_line n u))
+  pub line_unread : (u : Unread LineFault) → ReadAs (line_answer 1 w line) (Err u) → (read : List (Vec ℕ Global)) → done ≡ lists read → ReadTo (first_fault None 1 all) (lines_before None all) read (Err (at_line n u))
   line_unread (Faulty e) h read same = let both = line_refused h in (both.0, sym same ∙ both.1)
   line_unread (NoMemory _) h read same = tt

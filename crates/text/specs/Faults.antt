@@ -30,11 +30,16 @@ abbrev pub settings_refusal : SettingsFault → Refusal
 settings_refusal (settings.Line e) = line_refusal Settings 1 e
 settings_refusal settings.NoMemory = plain Settings 0
 
--- the fault of a script whose line of number n was not read, and of settings whose line was not
-abbrev pub at_line : ℕ → Unread → ScriptFault
-at_line n (Faulty e) = script.Line n e
-at_line n (NoMemory _) = script.NoMemory
+-- why a script was not read whose line of number n was not
+abbrev pub at_line : ℕ → Unread LineFault → Unread ScriptFault
+at_line n (Faulty e) = Faulty (script.Line n e)
+at_line n (NoMemory e) = NoMemory e
 
-abbrev pub in_settings : Unread → SettingsFault
+-- the fault of a script that was not read, and of settings whose line was not
+abbrev pub in_script : Unread ScriptFault → ScriptFault
+in_script (Faulty e) = e
+in_script (NoMemory _) = script.NoMemory
+
+abbrev pub in_settings : Unread LineFault → SettingsFault
 in_settings (Faulty e) = settings.Line e
 in_settings (NoMemory _) = settings.NoMemory

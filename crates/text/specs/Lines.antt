@@ -55,7 +55,7 @@ abbrev pub line_answer : ℕ → Option ℕ → List ℕ → Result (List ℕ) L
 line_answer m w line = counted w (numbers_from m 1 (fields_of line))
 
 -- a line is read as its numbers, or refused by its fault; besides, memory may be wanting
-abbrev pub ReadAs : Result (List ℕ) LineFault → Result (Vec ℕ Global) Unread → Type 0
+abbrev pub ReadAs : Result (List ℕ) LineFault → Result (Vec ℕ Global) (Unread LineFault) → Type 0
 ReadAs answer (Ok v) = answer ≡ Ok (vec_items v)
 ReadAs answer (Err (Faulty e)) = answer ≡ Err e
 ReadAs answer (Err (NoMemory _)) = Unit {0}

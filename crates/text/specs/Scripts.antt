@@ -3,6 +3,8 @@ use Rattle.std.specs.Prelude.{◌≡◌, ℕ, ◌+◌, Bool, cond, ◌||◌, Lis
 use Rattle.std.specs.declared.alloc.Global.{Global}
 use Rattle.text.specs.declared.fault.ScriptFault.{ScriptFault}
 use Rattle.text.specs.declared.fault.ScriptFault.TheVariants.{Line, TooLong, NoMemory}
+use Rattle.text.specs.declared.fault.Unread.{Unread}
+use Rattle.text.specs.declared.fault.Unread.TheVariants as unread
 use Rattle.text.specs.declared.script.Script.{Script}
 use Rattle.text.specs.Cuts.{lines_of}
 use Rattle.text.specs.Lines.{line_answer}
@@ -43,18 +45,17 @@ abbrev pub script_lines : Script → List (List ℕ)
 script_lines s = lists (vec_items s.lines)
 
 -- these lines were read, up to this fault, if there is one; besides, memory may be wanting
-abbrev pub ReadTo : Option ScriptFault → List (List ℕ) → List (Vec ℕ Global) → Result (Unit {0}) ScriptFault → Type 0
+abbrev pub ReadTo : Option ScriptFault → List (List ℕ) → List (Vec ℕ Global) → Result (Unit {0}) (Unread ScriptFault) → Type 0
 ReadTo fault lines read (Ok _) = (fault ≡ None) × (lists read ≡ lines)
-ReadTo fault lines read (Err (Line n e)) = (fault ≡ Some (Line n e)) × (lists read ≡ lines)
-ReadTo fault lines read (Err TooLong) = (fault ≡ Some TooLong) × (lists read ≡ lines)
-ReadTo fault lines read (Err NoMemory) = Unit {0}
+ReadTo fault lines read (Err (unread.Faulty e)) = (fault ≡ Some e) × (lists read ≡ lines)
+ReadTo fault lines read (Err (unread.NoMemory _)) = Unit {0}
 
 -- the lines of a text were read, whatever its length
-abbrev pub ReadLines : List ℕ → List (Vec ℕ Global) → Result (Unit {0}) ScriptFault → Type 0
+abbrev pub ReadLines : List ℕ → List (Vec ℕ Global) → Result (Unit {0}) (Unread ScriptFault) → Type 0
 ReadLines text = ReadTo (first_fault None 1 (lines_of text)) (lines_before None (lines_of text))
 
 -- the same, but nothing of a text that is too long
-abbrev pub ReadText : List ℕ → List (Vec ℕ Global) → Result (Unit {0}) ScriptFault → Type 0
+abbrev pub ReadText : List ℕ → List (Vec ℕ Global) → Result (Unit {0}) (Unread ScriptFault) → Type 0
 ReadText text = ReadTo (fault_of text) (whole_lines text)
 
 -- a text is read as its lines, or refused by its fault; besides, memory may be wanting

@@ -1,6 +1,6 @@
 // The faults of a script and of settings. Lines and fields count from 1.
 ghost use Rattle.std.specs.Prelude.{◌≡◌, alloc_error};
-ghost use Rattle.text.specs.Faults.{line_refusal, script_refusal, settings_refusal, at_line, in_settings};
+ghost use Rattle.text.specs.Faults.{line_refusal, script_refusal, settings_refusal, at_line, in_script, in_settings};
 ghost use Rattle.text.specs.declared.fault.SettingsFault.TheVariants.{Line as SettingsLine, NoMemory as SettingsNoMemory};
 ghost use Rattle.text.specs.declared.fault.ScriptFault.TheVariants.{NoMemory as ScriptNoMemory};
 ghost use Rattle.text.specs.declared.fault.Unread.TheVariants.{Faulty, NoMemory as UnreadNoMemory};
@@ -39,11 +39,11 @@ pub enum SettingsFault {
     NoMemory,
 }
 
-// Why a line was not read.
+// Why a line or a text was not read.
 #[derive(Clone, Copy)]
-pub(crate) enum Unread {
+pub(crate) enum Unread<E> {
     // It has this fault.
-    Faulty(LineFault),
+    Faulty(E),
     // No memory for its numbers.
     NoMemory(AllocError),
 }
@@ -61,14 +61,14 @@ impl LineFault {
     }
 }
 
-impl Unread {
-    // The fault of a script whose line of this number was not read.
-    pub(crate) fn at_line(self, line: usize) -> ScriptFault
+impl Unread<LineFault> {
+    // Why a script was not read whose line of this number was not.
+    pub(crate) fn at_line(self, line: usize) -> Unread<ScriptFault>
         ensures { result ≡ at_line line self }
     {
         match self {
-            Unread::Faulty(fault) => ScriptFault::Line(line, fault),
-            Unread::NoMemory(error) => error.into(),
+            Unread::Faulty(fault) => Unread::Faulty(ScriptFault::Line(line, fault)),
+            Unread::NoMemory(error) => Unread::NoMemory(error),
         }
     }
 }
@@ -120,10 +120,21 @@ impl From<LineFault> for SettingsFault {
     }
 }
 
-impl From<Unread> for SettingsFault {
+impl From<Unread<ScriptFault>> for ScriptFault {
+    ghost from_gives = { λ e r. r ≡ in_script e };
+
+    fn from(unread: Unread<ScriptFault>) -> ScriptFault {
+        match unread {
+            Unread::Faulty(fault) => fault,
+            Unread::NoMemory(error) => error.into(),
+        }
+    }
+}
+
+impl From<Unread<LineFault>> for SettingsFault {
     ghost from_gives = { λ e r. r ≡ in_settings e };
 
-    fn from(unread: Unread) -> SettingsFault {
+    fn from(unread: Unread<LineFault>) -> SettingsFault {
         match unread {
             Unread::Faulty(fault) => fault.into(),
             Unread::NoMemory(error) => error.into(),
@@ -131,18 +142,18 @@ impl From<Unread> for SettingsFault {
     }
 }
 
-impl From<LineFault> for Unread {
+impl From<LineFault> for Unread<LineFault> {
     ghost from_gives = { λ e r. r ≡ Faulty e };
 
-    fn from(fault: LineFault) -> Unread {
+    fn from(fault: LineFault) -> Unread<LineFault> {
         Unread::Faulty(fault)
     }
 }
 
-impl<T: Drop> From<AllocFailed<T>> for Unread {
+impl<T: Drop, E> From<AllocFailed<T>> for Unread<E> {
     ghost from_gives = { λ _ r. r ≡ UnreadNoMemory alloc_error };
 
-    fn from(failed: AllocFailed<T>) -> Unread {
+    fn from(failed: AllocFailed<T>) -> Unread<E> {
         Unread::NoMemory(failed.into())
     }
 }

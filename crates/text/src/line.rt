@@ -61,7 +61,7 @@ impl LineForm {
     }
 
     // The numbers of a line, or its first fault; the count of fields is looked at last.
-    pub(crate) fn read(self, heap: Global, line: &[u8]) -> Result<Vec<u16>, Unread>
+    pub(crate) fn read(self, heap: Global, line: &[u8]) -> Result<Vec<u16>, Unread<LineFault>>
         ensures { ReadAs (line_answer self.digits self.width line.now) result }
     {
         let mut numbers = Vec::new(heap);

@@ -3,7 +3,7 @@ ghost use Rattle.std.specs.Prelude.{◌≡◌, [], IfOk};
 ghost use Rattle.text.specs.Scripts.{too_long, whole_lines, script_lines, ParsedScript, ReadLines, ReadText};
 
 use super::super::cut::Lines;
-use super::super::fault::ScriptFault;
+use super::super::fault::{ScriptFault, Unread};
 use super::super::line::LineForm;
 use super::Script;
 use std::alloc::{AllocError, Global};
@@ -16,7 +16,11 @@ fn is_too_long(text: &[u8]) -> bool
 }
 
 // Reads the lines of a text into `lines`, up to the first fault.
-fn read_lines(heap: Global, text: &[u8], lines: &mut Vec<Vec<u16>>) -> Result<(), ScriptFault>
+fn read_lines(
+    heap: Global,
+    text: &[u8],
+    lines: &mut Vec<Vec<u16>>,
+) -> Result<(), Unread<ScriptFault>>
     requires { lines.old.items ≡ [] }
     ensures { ReadLines text.now lines.new.items result }
 {
@@ -28,18 +32,22 @@ fn read_lines(heap: Global, text: &[u8], lines: &mut Vec<Vec<u16>>) -> Result<()
             .read(heap, line)
             .map_err(|unread| unread.at_line(number))?;
         width = Some(numbers.len());
-        lines.push(numbers).map_err(AllocError::from)?;
+        lines.push(numbers)?;
     }
     Ok(())
 }
 
 // The same, but nothing is read of a text that is too long.
-fn read_text(heap: Global, text: &[u8], lines: &mut Vec<Vec<u16>>) -> Result<(), ScriptFault>
+fn read_text(
+    heap: Global,
+    text: &[u8],
+    lines: &mut Vec<Vec<u16>>,
+) -> Result<(), Unread<ScriptFault>>
     requires { lines.old.items ≡ [] }
     ensures { ReadText text.now lines.new.items result }
 {
     if is_too_long(text) {
-        return Err(ScriptFault::TooLong);
+        return Err(Unread::Faulty(ScriptFault::TooLong));
     }
     read_lines(heap, text, lines)
 }
@@ -60,7 +68,7 @@ impl Script {
     {
         let mut lines = Vec::new(heap);
         match read_text(heap, text, &mut lines) {
-            Err(ScriptFault::NoMemory) => Err(AllocError),
+            Err(Unread::NoMemory(error)) => Err(error),
             _ => Ok(Script { lines }),
         }
     }
