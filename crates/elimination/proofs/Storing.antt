@@ -1,5 +1,5 @@
 -- A row put into a table, row after row. Assumes nothing.
-use Rattle.std.proofs.Common.{◌≡◌, ℕ, ◌+◌, ◌<◌, ◌≤◌, List, [], map, length, get_or, set, vec_items, Vec, sym, refl, ap, ◌∙◌, subst, ap₂, inl, inr, le_refl, arith}
+use Rattle.std.proofs.Common.{◌≡◌, ℕ, ◌+◌, ◌<◌, ◌≤◌, List, [], map, length, get_or, set, vec_items, Vec, sym, ap, ◌∙◌, subst, ap₂, inl, inr, le_refl, arith}
 use Rattle.std.specs.declared.alloc.Global.{Global}
 use Rattle.std.proofs.lemmas.List.{ext_get_or, get_or-map, get_or-set_same, get_or-set_other, length-map, map-set}
 use Rattle.std.proofs.lemmas.Bool.{cases_eq}
@@ -20,9 +20,6 @@ module _ (o : Ops) (a : ℕ) (row : List ℕ) (before : List (Vec ℕ Global)) w
   pub record Cleared (m : ℕ) (t : List (Vec ℕ Global)) : Type 0 where
     pub done : (j : ℕ) → j < m → get_or (lists t) j [] ≡ cleared o a row (get_or (lists before) j [])
     pub rest : (j : ℕ) → m ≤ j → get_or (lists t) j [] ≡ get_or (lists before) j []
-
-  pub cleared_none : Cleared 0 before
-  cleared_none = record { done = λ j h. absurd (omega arith); rest = λ j h. refl }
 
   pub cleared_more : (m : ℕ) (t : List (Vec ℕ Global)) (d v : Vec ℕ Global) → m < length t → Cleared m t → vec_items v ≡ cleared o a row (vec_items (get_or t m d)) → Cleared (m + 1) (set t m v)
   cleared_more m t d v h c e = record {
