@@ -14,7 +14,7 @@ use Rattle.decode.specs.Decoding.{Listed, hearings, ReadAs, ReadOff}
 
 -- a started relay stays started
 pub still : (s : Option State) (f : List ℕ) (r : Result ℕ RowsFault) (t : Option State) → is_some s ≡ true → Hears s f r t → is_some t ≡ true
-still None f r t h heard = let z : ◌≡◌ {A = ℕ} 0 1 = cc in absurd (omega arith)
+still None f r t h heard = cc
 still (Some s) f (Ok zero) t h heard = ap is_some heard.2
 still (Some s) f (Ok (suc a)) t h heard = ap is_some heard.1.1.1
 still (Some s) f (Err e) t h heard = ap is_some heard.1

@@ -23,6 +23,7 @@ pub fn refused(heap: Global, name: &str, fault: &RowsFault) -> Result<String, Al
     format!(in heap; "{name}  {refusal}\n")
 }
 
+// The frames heard, and then the packets, a line for each.
 impl fmt::Display for Decoding<'_> {
     ghost output = { λ d. Some (decoding_text d) };
 
@@ -39,6 +40,7 @@ impl fmt::Display for Decoding<'_> {
     }
 }
 
+// The frame, what the relay answered to it, and the packets that it had then seen.
 impl fmt::Display for Line<'_> {
     ghost output = { λ x. Some (line_text x) };
 
