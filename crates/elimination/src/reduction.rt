@@ -4,7 +4,6 @@ ghost use Rattle.algebra.specs.Frames.{code_at, Codes, Frame};
 ghost use Rattle.elimination.specs.Rows.{less_multiple};
 ghost use Rattle.elimination.specs.Reduction.{lists, Reducible, rest_row, NoCoefficient, FirstCoefficient, multiple, Insertable, with_row, Spanned, NewRow};
 
-use super::codes::{inverse, times};
 use super::rows::subtract_codes;
 use field::Field;
 
@@ -36,7 +35,7 @@ pub(crate) fn scale<F: Field>(field: &F, factor: u16, row: &mut [u16])
     ensures codes { Codes (F.ops field.now).size row.new }
 {
     for code in row.iter_mut() {
-        *code = times(field, factor, *code);
+        *code = field.product(factor, *code).unwrap();
     }
 }
 
@@ -83,7 +82,7 @@ pub(crate) fn new_row<F: Field>(
 {
     reduce(field, table, frame, rest);
     let lead = first_coefficient(rest, table.len())?;
-    let factor = inverse(field, rest[lead]);
+    let factor = field.inverse(rest[lead]).unwrap();
     scale(field, factor, rest);
     Some(lead)
 }

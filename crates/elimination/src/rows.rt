@@ -3,7 +3,7 @@ ghost use Rattle.std.specs.Prelude.{◌≡◌, OnOk};
 ghost use Rattle.algebra.specs.Frames.{Codes};
 ghost use Rattle.elimination.specs.Rows.{Subtractable, less_multiple, subtract_answer, subtract_after};
 
-use super::codes::{check_pair, less, times};
+use super::codes::check_pair;
 use super::fault::RowsFault;
 use field::Field;
 use field::fault::FieldFault;
@@ -43,7 +43,7 @@ pub(crate) fn subtract_codes<F: Field>(field: &F, target: &mut [u16], factor: u1
 {
     // With an index into the source, since an invariant cannot say what a loop over `zip` wrote.
     for (i, code) in target.iter_mut().enumerate() {
-        let product = times(field, factor, source[i]);
-        *code = less(field, *code, product);
+        let product = field.product(factor, source[i]).unwrap();
+        *code = field.difference(*code, product).unwrap();
     }
 }

@@ -3,7 +3,7 @@ ghost use Rattle.std.specs.Prelude.{◌≡◌, length};
 ghost use Rattle.algebra.specs.Frames.{Codes};
 ghost use Rattle.elimination.specs.Veto.{veto, veto_answer};
 
-use super::codes::{check_pair, plus, times};
+use super::codes::check_pair;
 use super::fault::RowsFault;
 use field::Field;
 
@@ -25,8 +25,8 @@ fn sum_products<F: Field>(field: &F, coefficients: &[u16], column: &[u16]) -> u1
 {
     let mut sum = 0;
     for (coefficient, code) in coefficients.iter().zip(column) {
-        let product = times(field, *coefficient, *code);
-        sum = plus(field, sum, product);
+        let product = field.product(*coefficient, *code).unwrap();
+        sum = field.sum(sum, product).unwrap();
     }
     sum
 }
