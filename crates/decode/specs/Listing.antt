@@ -1,11 +1,12 @@
--- What the program writes of a decoding, byte by byte; 32 is a blank and 10 ends a line. Assumes nothing.
-use Rattle.std.specs.Prelude.{◌≡◌, ℕ, ◌+◌, ◌-◌, ◌/◌, ◌%◌, ◌^◌, cond, List, [], ◌∷◌, ◌++◌, length, replicate, Some, None, Ok, Err, vec_items, codes, decimal, Option, Result, Vec, ◌==◌}
+-- What the program writes of a decoding, byte by byte; 10 ends a line. Assumes nothing.
+use Rattle.std.specs.Prelude.{◌≡◌, ℕ, ◌+◌, ◌/◌, ◌%◌, ◌^◌, cond, List, [], ◌∷◌, ◌++◌, Some, None, Ok, Err, vec_items, codes, decimal, Option, Result, Vec, ◌==◌}
 use Rattle.std.specs.List.{flat_map, range_with_len, enumerate_from}
 use Rattle.std.specs.declared.alloc.Global.{Global}
 use Rattle.faults.specs.Refusals.{refusal_text}
 use Rattle.field.specs.Fields.{Ops}
 use Rattle.elimination.specs.Faults.{rows_refusal}
 use Rattle.elimination.specs.declared.fault.RowsFault.{RowsFault}
+use Rattle.printing.specs.Codes.{codes_text}
 use Rattle.decode.specs.declared.decoding.Decoding.{Decoding}
 use Rattle.decode.specs.declared.decoding.Line.{Line}
 use Rattle.decode.specs.Decoding.{Decodes}
@@ -13,13 +14,6 @@ use Rattle.decode.specs.Recordings.{recorded}
 
 abbrev pub line_end : List ℕ
 line_end = 10 ∷ []
-
--- a code after a blank, padded on the left to three characters
-abbrev pub code_text : ℕ → List ℕ
-code_text n = codes " " ++ (replicate (3 - length (decimal n)) 32 ++ decimal n)
-
-abbrev pub codes_text : List ℕ → List ℕ
-codes_text cs = flat_map code_text cs
 
 -- what a frame was answered: the packet newly seen, or 0, or a refusal
 abbrev pub answer_text : Result ℕ RowsFault → List ℕ

@@ -1,10 +1,11 @@
 // What the program writes of a decoding.
 ghost use Rattle.std.specs.Prelude.{◌≡◌, Some, IfOk, string_bytes};
-ghost use Rattle.decode.specs.Listing.{codes_text, answer_text, set_text, line_text, packet_text, decoding_text, listing_text, refused_text};
+ghost use Rattle.decode.specs.Listing.{answer_text, set_text, line_text, packet_text, decoding_text, listing_text, refused_text};
 
 use super::decoding::{Decoding, Line};
 use elimination::fault::RowsFault;
 use faults::Fault;
+use printing::Codes;
 use std::alloc::{AllocError, Global};
 use std::fmt;
 
@@ -49,21 +50,6 @@ impl fmt::Display for Line<'_> {
         let answer = Answer(self.answer);
         let seen = Seen(self.seen);
         writeln!(f, "  heard  {frame}  {answer}  seen{seen}")
-    }
-}
-
-// Codes, each after a blank and padded on the left to three characters.
-#[derive(Clone, Copy)]
-struct Codes<'a>(&'a [u16]);
-
-impl fmt::Display for Codes<'_> {
-    ghost output = { λ c. Some (codes_text c.0.now) };
-
-    fn fmt<W: fmt::Write>(&self, f: &mut fmt::Formatter<W>) -> fmt::Result {
-        for code in self.0 {
-            write!(f, " {code:>3}")?;
-        }
-        Ok(())
     }
 }
 

@@ -1,6 +1,6 @@
 -- What the program lists of a repair. Assumes nothing.
-use Rattle.std.specs.Prelude.{◌≡◌, ℕ, ◌-◌, List, [], ◌∷◌, ◌++◌, length, replicate, Option, Some, None, codes, decimal, slice_index_or}
-use Rattle.std.specs.List.{flat_map}
+use Rattle.std.specs.Prelude.{◌≡◌, ℕ, ◌-◌, List, [], ◌∷◌, ◌++◌, length, replicate, Option, Some, None, codes, slice_index_or}
+use Rattle.printing.specs.Codes.{codes_text}
 use Rattle.repair.specs.Coding.{coefficients, packets}
 use Rattle.repair.specs.declared.coding.Load.{Load}
 use Rattle.repair.specs.declared.coding.Repaired.{Repaired}
@@ -27,20 +27,13 @@ abbrev pub end_text : Option Remark → List ℕ
 end_text None = []
 end_text (Some r) = remark_text r
 
--- a text in a column of n places, filled up with spaces: at the left, or at the right
+-- a text at the left of a column of n places, filled up with spaces
 abbrev pub at_left : ℕ → List ℕ → List ℕ
 at_left n text = text ++ replicate (n - length text) 32
 
-abbrev pub at_right : ℕ → List ℕ → List ℕ
-at_right n text = replicate (n - length text) 32 ++ text
-
--- a code of a frame, set off by a space
-abbrev pub code_text : ℕ → List ℕ
-code_text c = codes " " ++ at_right 3 (decimal c)
-
 -- a line as it is printed, in columns: the word, the codes of the frame, the remark
 abbrev pub line_text : Line → List ℕ
-line_text line = codes "  " ++ (at_left 8 (word_text line.word) ++ (flat_map code_text line.frame ++ end_text line.remark))
+line_text line = codes "  " ++ (at_left 8 (word_text line.word) ++ (codes_text line.frame ++ end_text line.remark))
 
 -- a line: what the frame is, its coefficients and symbols, and a remark
 abbrev pub line_of : Word → List ℕ → List ℕ → Option Remark → Line

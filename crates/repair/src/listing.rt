@@ -4,6 +4,7 @@ ghost use Rattle.std.specs.Fmt.{padded};
 ghost use Rattle.repair.specs.Listing.{word_text, remark_text, line_text, line_of, Compared, Listed};
 
 use super::coding::{Load, Packet, Repaired};
+use printing::Codes;
 use std::fmt;
 
 // A frame: three coefficients, then four symbols.
@@ -76,12 +77,11 @@ impl Line {
 impl fmt::Display for Line {
     ghost output = { λ line. Some (line_text line) };
 
+    #[tactic(auto, using(std::proofs::lemmas::Grind::common_steps, crate::proofs::Columns::word_at_left))]
     fn fmt<W: fmt::Write>(&self, f: &mut fmt::Formatter<W>) -> fmt::Result {
         let word = self.word;
-        write!(f, "  {word:<8}")?;
-        for code in &self.frame {
-            write!(f, " {code:>3}")?;
-        }
+        let frame = Codes(&self.frame);
+        write!(f, "  {word:<8}{frame}")?;
         match self.remark {
             Some(remark) => write!(f, "{remark}"),
             None => Ok(()),
