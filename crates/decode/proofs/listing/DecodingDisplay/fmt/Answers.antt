@@ -1,9 +1,9 @@
-use Rattle.std.proofs.Common.{◌≡◌, ◌<◌, ◌+◌, None, ◌++◌, length, vec_items, get_or, take, sym, ap, ap₂, ◌∙◌, arith, rules}
-use Rattle.std.proofs.Output.{has_written_append, has_written_of_eq}
-use Rattle.std.proofs.lemmas.List.{take_all, get_or_read}
+use Rattle.std.proofs.Common.{◌≡◌, ◌<◌, ◌+◌, None, length, vec_items, get_or, sym, ap, ap₂, ◌∙◌, arith, rules}
+use Rattle.std.proofs.lemmas.Grind.{common_steps}
+use Rattle.std.proofs.lemmas.List.{get_or_read}
 use Rattle.std.proofs.lemmas.List.FromFn.{get_or-enumerate_from, length-enumerate_from}
-use Rattle.std.specs.List.{flat_map, enumerate_from}
-use Rattle.decode.specs.Listing.{line_text, packet_text}
+use Rattle.std.specs.List.{enumerate_from}
+use Rattle.decode.specs.Listing.{packet_text}
 use Rattle.decode.proofs.Writing.{more_written}
 use Rattle.decode.proofs.listing.DecodingDisplay.fmt.Goals as goal
 
@@ -23,13 +23,4 @@ loop-k-preserved g c = λ p.
     before (search rules)
 
 pub returns-clause-writes : goal.returns-clause-writes
-returns-clause-writes g c = λ p _.
-    let lines = vec_items c.args.self.now.lines in
-    let packets = vec_items c.args.self.now.packets in
-    let heard = c.loop-line.invariant p in
-    let told = c.loop-k.invariant heard.plain in
-    has_written_of_eq _ _ _ _ _
-    (ap₂ (λ a b. flat_map line_text a ++ flat_map packet_text b)
-    (ap (take c.loop-line.line-index) c.deref-line-items.ensures.value ∙ take_all c.loop-line.line-index lines (omega (arith, ap length c.deref-line-items.ensures.value)))
-    (take_all c.loop-k.k (enumerate_from 1 packets) (omega (arith, length-enumerate_from 1 packets, ap length c.deref-symbols-items.ensures.value))))
-    (has_written_append _ _ _ _ _ _ heard told)
+returns-clause-writes g c = grind (arith, common_steps, length-enumerate_from)
