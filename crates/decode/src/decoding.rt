@@ -1,5 +1,5 @@
 // A relay hears frames, one after another, and then reads what packets it can.
-ghost use Rattle.std.specs.Prelude.{◌≡◌, ◌≤◌, true, is_some, IfOk};
+ghost use Rattle.std.specs.Prelude.{◌≡◌, true, is_some, IfOk};
 ghost use Rattle.elimination.specs.Reduction.{lists};
 ghost use Rattle.relay.specs.States.{state};
 ghost use Rattle.decode.specs.Decoding.{Decodes, frames_of_lines, Listed, ReadAs, ReadOff};

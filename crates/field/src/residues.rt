@@ -31,6 +31,7 @@ pub trait Modulus {
     ghost inverses: { all_below (invertible Q TURNS) (Q - 1) ≡ true };
 }
 
+// Remainders are narrowed by casts, since `try_from` would have a case that never comes.
 impl<M: Modulus> Field for M {
     ghost ops = { λ _. residues M.Q };
 

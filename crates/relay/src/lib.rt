@@ -44,7 +44,7 @@ impl<F: Field + Drop> Relay<F> {
         Ok(())
     }
 
-    // Hears a frame, and answers the packet newly seen by it, or 0.
+    // Hears a frame, and answers the packet newly seen by it, or 0: a number and no `Option`, since that is how it is told.
     pub fn hear(&mut self, frame: &[u16]) -> Result<usize, RowsFault>
         ensures { Hears (state F.ops self.old) frame.now result (state F.ops self.new) }
     {

@@ -43,6 +43,7 @@ impl Table {
         ensures shape { self.new.shape ≡ self.old.shape }
         ensures taken { Taken (F.ops field.now) (held self.old) frame.now result (held self.new) }
     {
+        // Room for the widest frame, since memory is got when a table is built and at no other time.
         let mut buffer = [0; 64];
         let row = &mut buffer[..self.shape.width()];
         let Some(lead) = new_row(field, self.rows.as_slice(), frame, row) else {

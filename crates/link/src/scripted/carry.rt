@@ -12,7 +12,7 @@ use std::alloc::{AllocError, Global};
 use text::script::Script;
 
 impl Scripted {
-    // A link with a slot for each line of the script.
+    // A link with a slot for each line of the script; a cast, since a script has at most 1,024 lines.
     pub fn new(script: Script) -> Scripted
         ensures { ScriptedNew (script_lines script) result }
     {
