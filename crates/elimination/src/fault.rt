@@ -55,7 +55,7 @@ impl From<FieldFault> for RowsFault {
 impl From<AllocError> for RowsFault {
     ghost from_gives = { λ _ r. r ≡ NoMemory };
 
-    fn from(_none: AllocError) -> RowsFault {
+    fn from(_: AllocError) -> RowsFault {
         RowsFault::NoMemory
     }
 }

@@ -19,12 +19,11 @@ pub(crate) fn reduce<F: Field>(field: &F, table: &[Vec<u16>], frame: &[u16], res
     }
 }
 
-// The first of the first n places at which a row is not 0.
-pub(crate) fn first_coefficient(row: &[u16], n: usize) -> Option<usize>
-    requires { n ≤ length row.now }
-    ensures { MatchOption result (NoCoefficient n row.now) (FirstCoefficient n row.now) }
+// The first place at which a row is not 0.
+pub(crate) fn first_coefficient(row: &[u16]) -> Option<usize>
+    ensures { MatchOption result (NoCoefficient (length row.now) row.now) (FirstCoefficient (length row.now) row.now) }
 {
-    row[..n].iter().position(|code| *code != 0)
+    row.iter().position(|code| *code != 0)
 }
 
 // Multiplies each code of a row.
@@ -81,7 +80,7 @@ pub(crate) fn new_row<F: Field>(
     ensures { MatchOption result (Spanned (F.ops field.now) (lists table.now) frame.now rest.new) (NewRow (F.ops field.now) (lists table.now) frame.now rest.new) }
 {
     reduce(field, table, frame, rest);
-    let lead = first_coefficient(rest, table.len())?;
+    let lead = first_coefficient(&rest[..table.len()])?;
     let factor = field.inverse(rest[lead]).unwrap();
     scale(field, factor, rest);
     Some(lead)
@@ -91,5 +90,5 @@ pub(crate) fn new_row<F: Field>(
 pub(crate) fn all_zero(row: &[u16]) -> bool
     ensures { MatchBool result (NoCoefficient (length row.now) row.now) ((a : ℕ) × FirstCoefficient (length row.now) row.now a) }
 {
-    first_coefficient(row, row.len()).is_none()
+    first_coefficient(row).is_none()
 }

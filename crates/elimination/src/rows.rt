@@ -35,8 +35,8 @@ fn check_subtraction(q: u32, target: &[u16], factor: u16, source: &[u16]) -> Res
     Ok(())
 }
 
-// The same for rows of one length whose codes are known to be below q; codes stay codes. That codes are below q is said in each
-// contract and is no type's invariant, since q is the field's, known as the program runs.
+// Subtracts likewise, for rows of one length whose codes are known to be below q; codes stay codes. That codes are below q is said in
+// each contract and is no type's invariant, since q is the field's, known as the program runs.
 pub(crate) fn subtract_codes<F: Field>(field: &F, target: &mut [u16], factor: u16, source: &[u16])
     requires { Subtractable (F.ops field.now).size target.old factor source.now }
     ensures after { target.new ≡ less_multiple (F.ops field.now) target.old factor source.now }

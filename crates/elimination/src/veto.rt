@@ -8,7 +8,8 @@ use super::fault::RowsFault;
 use field::Field;
 
 // The sum of the coefficients that a frame has before a packet, each times the code that a relay's row with that lead has at
-// the packet; `column` has these codes. Two slices and no pairs, since callers hold them apart and pairs would need memory.
+// the packet; `column` has these codes. Two slices, as the one stands in a frame and the other is read off rows: pairs would have to
+// be made first.
 pub fn veto_sum<F: Field>(field: &F, coefficients: &[u16], column: &[u16]) -> Result<u16, RowsFault>
     ensures { result ≡ veto_answer (F.ops field.now) coefficients.now column.now }
 {

@@ -48,7 +48,7 @@ pub trait Link {
 fn relay_index(relay: usize) -> Result<usize, LinkFault>
     ensures { result ≡ relay_answer relay }
 {
-    if relay == 0 || relay > 8 {
+    if !(1..=8).contains(&relay) {
         return Err(LinkFault::NoSuchRelay);
     }
     Ok(relay - 1)

@@ -5,6 +5,7 @@ use arrayvec::ArrayVec;
 
 mod carry;
 
+// `short` says the capacity once more, since a clause cannot read it off an `ArrayVec`.
 #[derive(Drop)]
 pub struct Slots {
     pub(crate) carried: u16,

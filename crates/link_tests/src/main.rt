@@ -43,7 +43,7 @@ fn send_over<L: Link>(pile: &mut Erasing<Erasing<L>>, frame: &[u16]) -> Result<[
     Ok(all_copies(pile))
 }
 
-// Over a drawn link the counts that come are those drawn.
+// Over a drawn link the counts that come are those drawn. It is here, as is the next, for what its contract says.
 fn send_over_drawn(pile: &mut Erasing<Erasing<Drawn>>, frame: &[u16]) -> Result<[u8; 8], LinkFault>
     ensures { IfOk result (OverDrawn pile.old) }
 {

@@ -92,9 +92,9 @@ fn link_refusals(rt: HostRuntime) -> Result<(), Fail> {
     assert_eq!(rt; link.copies(9), Err(LinkFault::NoSuchRelay));
     assert_eq!(rt; link.read(9, &mut buffer), Err(LinkFault::NoSuchRelay));
     assert_eq!(rt; link.read(2, &mut buffer), Err(LinkFault::NoCopy));
-    assert!(rt; buffer[0] == 7);
+    assert_eq!(rt; buffer, [7, 7]);
     assert_eq!(rt; link.read(1, &mut buffer), Ok(()));
-    assert!(rt; buffer[0] == 5 && buffer[1] == 6);
+    assert_eq!(rt; buffer, [5, 6]);
     Ok(())
 }
 
@@ -109,5 +109,5 @@ fn layer_refusals(rt: HostRuntime) {
         Err(LinkFault::WrongLength)
     );
     assert_eq!(rt; link.read(3, &mut buffer), Err(LinkFault::NoCopy));
-    assert!(rt; buffer[0] == 7 && buffer[1] == 7);
+    assert_eq!(rt; buffer, [7, 7]);
 }

@@ -18,6 +18,7 @@ pub struct Term<P> {
 }
 
 impl<P: Copy> Term<P> {
+    // A packet with this coefficient.
     pub fn new(coefficient: u16, packet: P) -> Term<P>
         ensures { result ≡ record { coefficient = coefficient; packet = packet } }
     {
@@ -70,6 +71,7 @@ fn rebuild<F: Field>(
     ensures { Rebuilt (F.ops field.now) (coefficients received.now) (packets received.now) coded.now result }
 {
     let mut rest = *coded;
+    // 0 where no packet is lost: its inverse is then refused.
     let mut lost = 0;
     for term in received {
         match &term.packet {

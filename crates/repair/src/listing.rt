@@ -60,6 +60,7 @@ impl fmt::Display for Remark {
 }
 
 impl Line {
+    // A line whose frame has these coefficients and, as symbols, this packet.
     fn new(word: Word, coefficients: &[u16; 3], packet: &Packet, remark: Option<Remark>) -> Line
         ensures { result ≡ line_of word coefficients.now packet.now remark }
     {

@@ -30,7 +30,7 @@ abbrev pub settings_refusal : SettingsFault → Refusal
 settings_refusal (settings.Line e) = line_refusal Settings 1 e
 settings_refusal settings.NoMemory = plain Settings 0
 
--- why a script was not read whose line of number n was not
+-- why a line was not read, told of the script that has it as line n
 abbrev pub at_line : ℕ → Unread LineFault → Unread ScriptFault
 at_line n (Faulty e) = Faulty (script.Line n e)
 at_line n (NoMemory e) = NoMemory e

@@ -39,7 +39,7 @@ pub enum SettingsFault {
     NoMemory,
 }
 
-// Why a line or a text was not read.
+// Why a line or a text was not read. Want of memory is a case apart from faults, so that it is handed on as it came.
 #[derive(Clone, Copy)]
 pub(crate) enum Unread<E> {
     // It has this fault.
@@ -62,7 +62,7 @@ impl LineFault {
 }
 
 impl Unread<LineFault> {
-    // Why a script was not read whose line of this number was not.
+    // The same, told of the script that has this line, by the line's number.
     pub(crate) fn at_line(self, line: usize) -> Unread<ScriptFault>
         ensures { result ≡ at_line line self }
     {

@@ -18,7 +18,7 @@ fn number(field: &[u8]) -> u16
     requires short { length field.now ≤ 3 }
     ensures { result ≡ number_after 0 field.now }
 {
-    // A loop, since a `fold` asks for a longer proof that the number fits.
+    // A loop: a `fold` would be no plainer, as its closure has to require that the number fits.
     let mut number = 0;
     for byte in field {
         number = number * 10 + u16::from(*byte - b'0');

@@ -50,7 +50,7 @@ impl Table {
         if len != self.shape.symbols {
             return Err(RowsFault::WrongLength);
         }
-        if packet < 1 || packet > self.shape.packets {
+        if !(1..=self.shape.packets).contains(&packet) {
             return Err(RowsFault::NoPacket);
         }
         Ok(())

@@ -9,7 +9,8 @@ use field::Field;
 use std::alloc::{AllocError, Global};
 
 impl Table {
-    // A table for frames of this many coefficients and symbols; all its memory is got here.
+    // A table for frames of this many coefficients and symbols; all its memory is got here. Two numbers and no `Shape`, since sizes
+    // outside their range are this call's to refuse.
     pub fn for_field<F: Field>(
         heap: Global,
         field: &F,
@@ -41,7 +42,7 @@ impl Shape {
     fn new(packets: usize, symbols: usize) -> Result<Shape, RowsFault>
         ensures { Shaped packets symbols result }
     {
-        if packets < 1 || packets > 32 || symbols < 1 || symbols > 32 {
+        if !(1..=32).contains(&packets) || !(1..=32).contains(&symbols) {
             return Err(RowsFault::WrongSize);
         }
         Ok(Shape { packets, symbols })

@@ -24,7 +24,7 @@ impl Table {
     fn check_frame<F: Field>(&self, field: &F, frame: &[u16]) -> Result<(), RowsFault>
         ensures { result ≡ frame_answer (F.ops field.now) (held self.now) frame.now }
     {
-        if field.size() != self.q {
+        if !self.fits(field) {
             return Err(RowsFault::NotStarted);
         }
         if frame.len() != self.shape.width() {

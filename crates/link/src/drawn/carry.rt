@@ -12,7 +12,7 @@ impl Drawn {
     pub fn new(seed: u32, loss: u16) -> Drawn
         ensures { DrawnNew seed loss result }
     {
-        let state = if seed == 0 { 1 } else { seed };
+        let state = seed.max(1);
         Drawn {
             generator: Generator { state, loss },
             counts: [0; 8],

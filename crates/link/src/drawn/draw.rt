@@ -30,11 +30,7 @@ impl Generator {
     fn count(&self) -> u8
         ensures { result ≡ drawn_count self.now.loss self.now.state }
     {
-        if self.state >> 16 < u32::from(self.loss) {
-            0
-        } else {
-            1
-        }
+        u8::from(self.state >> 16 >= u32::from(self.loss))
     }
 
     // Draws all counts, one step for each.

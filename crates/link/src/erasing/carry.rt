@@ -55,7 +55,7 @@ impl<L: Link> Erasing<L> {
 impl<L: Link> Link for Erasing<L> {
     ghost meaning = { λ s. erased s.periods.of (L.meaning s.lower) };
 
-    // the periods stay, and the link below goes as it goes
+    // The periods stay, and the link below goes as it goes.
     ghost goes = { λ s frame t. (t.periods ≡ s.periods) × L.goes s.lower frame t.lower };
 
     ghost lawful = { λ s. erased_lawful s.periods.of (L.meaning s.lower) (L.lawful s.lower) };
