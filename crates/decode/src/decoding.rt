@@ -24,7 +24,7 @@ pub struct Decoding<'a> {
     pub packets: Vec<Option<Vec<u16>>>,
 }
 
-// Starts a relay, has it hear the frames, and reads its packets.
+// Starts a relay, has it hear the frames, and reads its packets. Sizes are two numbers, as the relay takes and refuses them.
 pub fn decode<F: Field + Drop>(
     heap: Global,
     field: F,

@@ -28,7 +28,8 @@ impl<F: Field + Drop> Relay<F> {
         Relay { place: None }
     }
 
-    // Sets the relay up, a started one anew, for frames of this many coefficients and symbols. All memory is got here.
+    // Sets the relay up, a started one anew, for frames of this many coefficients and symbols: two numbers, since sizes outside their
+    // range are refused here. All memory is got here.
     pub fn start(
         &mut self,
         heap: Global,
