@@ -1,10 +1,12 @@
 -- A coded sum of packets, and what is needed to rebuild a lost one. Assumes nothing.
-use Rattle.std.specs.Prelude.{◌≡◌, ℕ, ◌<◌, List, [], ◌∷◌, map, length, Some, None, Ok, Option, Result, slice_index, slice_index_or, slice_set}
+use Rattle.std.specs.Prelude.{◌≡◌, ℕ, ◌<◌, List, [], ◌∷◌, map, length, Some, None, Ok, Err, Option, Result, slice_index, slice_index_or, slice_set}
 use Rattle.std.specs.List.{range_with_len}
 use Rattle.field.specs.Fields.{Ops}
 use Rattle.algebra.specs.Frames.{Codes, Frame}
 use Rattle.elimination.specs.Rows.{Subtractable}
 use Rattle.elimination.specs.declared.fault.RowsFault.{RowsFault}
+use Rattle.elimination.specs.declared.fault.RowsFault.TheVariants.{Field}
+use Rattle.field.specs.declared.fault.FieldFault.TheVariants.{CodeTooLarge}
 use Rattle.repair.specs.declared.coding.Term.{Term}
 
 -- the coefficients of terms, and their packets
@@ -53,6 +55,11 @@ pub record Arrived (o : Ops) (cs : List ℕ) (sent : List (List ℕ)) (l : ℕ) 
 -- where rows and a factor fit, the multiple is added
 abbrev pub Added : Ops → List ℕ → ℕ → List ℕ → Result (Unit {0}) RowsFault → List ℕ → Type 0
 Added o t f s r new = Subtractable o.size t f s → (r ≡ Ok tt) × (new ≡ plus_multiple o t f s)
+
+-- it is refused exactly where a number is no code, for that alone, and then the target is as it was
+abbrev pub RefusedForCodes : ℕ → List ℕ → ℕ → List ℕ → Result (Unit {0}) RowsFault → List ℕ → Type 0
+RefusedForCodes q t f s (Ok _) new = Subtractable q t f s
+RefusedForCodes q t f s (Err e) new = (e ≡ Field CodeTooLarge) × (new ≡ t)
 
 -- what can be sent is coded
 abbrev pub Coded : Ops → List ℕ → List (List ℕ) → Result (List ℕ) RowsFault → Type 0

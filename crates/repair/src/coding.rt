@@ -1,5 +1,5 @@
 // A coded sum of packets, and the repair of a lost one by row subtraction and an inverse.
-ghost use Rattle.repair.specs.Coding.{Added, Coded, Scaled, Rebuilt, coefficients, packets};
+ghost use Rattle.repair.specs.Coding.{Added, RefusedForCodes, Coded, Scaled, Rebuilt, coefficients, packets};
 ghost use Rattle.repair.specs.Repair.{Survived};
 ghost use Rattle.std.specs.Prelude.{◌≡◌};
 
@@ -36,7 +36,8 @@ fn add_multiple<F: Field>(
     factor: u16,
     row: &Packet,
 ) -> Result<(), RowsFault>
-    ensures { Added (F.ops field.now) target.old factor row.now result target.new }
+    ensures added { Added (F.ops field.now) target.old factor row.now result target.new }
+    ensures refused { RefusedForCodes (F.ops field.now).size target.old factor row.now result target.new }
 {
     let negative = field.difference(0, factor)?;
     subtract_multiple(field, target, negative, row)
