@@ -1,5 +1,6 @@
 -- What a table does, told of the relay that holds it. Assumes nothing.
-use Rattle.std.proofs.Common.{◌≡◌, ℕ, ◌+◌, ◌-◌, ◌<◌, ◌≤◌, List, [], length, get_or, Some, Ok, Err, Result, sym, refl, ◌∙◌, subst, add-one, arith, length-drop, get_or-drop}
+use Rattle.std.proofs.Common.{◌≡◌, ℕ, ◌+◌, ◌-◌, ◌<◌, ◌≤◌, eqb, List, [], length, get_or, Some, None, Ok, Err, Result, sym, ◌∙◌, subst, subst₂, add-one, arith, length-drop, get_or-drop}
+use Rattle.std.proofs.lemmas.Bool.{eq-eqb, cond-true}
 use Rattle.faults.proofs.Passed.{later}
 use Rattle.field.specs.Fields.{Ops, Lawful}
 use Rattle.algebra.specs.Packets.{Bare, Determined}
@@ -8,13 +9,21 @@ use Rattle.elimination.specs.declared.fault.RowsFault.{RowsFault}
 use Rattle.elimination.specs.declared.fault.RowsFault.TheVariants.{NotDetermined}
 use Rattle.elimination.specs.Sound.{Sound}
 use Rattle.elimination.specs.Tables.{Held, frame_answer, Shows, packet_answer, symbols_of, Fetched}
-use Rattle.elimination.proofs.Accepting.{packet_passed}
+use Rattle.elimination.proofs.Accepting.{frame_passed, packet_passed}
 use Rattle.elimination.proofs.Tabling.{own}
-use Rattle.relay.specs.Calls.{HeardBy, FetchedBy, Holds}
+use Rattle.relay.specs.Calls.{Hears, FetchedBy, Holds}
+use Rattle.relay.specs.States.{state_of}
+
+-- a table of the field's size is a started relay's
+pub started_at : (o : Ops) (t : Held) → o.size ≡ t.size → state_of o t ≡ Some (record { ops = o; table = t })
+started_at o t e = cond-true (eqb o.size t.size) (Some (record { ops = o; table = t })) None (eq-eqb o.size t.size e)
 
 -- a frame that is put in shows its lead, counted from 1
-pub shown : (o : Ops) (t u : Held) (f : List ℕ) (a : ℕ) → frame_answer o t f ≡ Ok tt → Shows o t f a u → HeardBy (record { ops = o; table = t }) f (Ok (a + 1)) (Some (record { ops = o; table = u }))
-shown o t u f a ok put = rw add-one (ok, (u, (put, refl)))
+pub shown : (o : Ops) (t u : Held) (f : List ℕ) (a : ℕ) → frame_answer o t f ≡ Ok tt → Shows o t f a u → Hears (state_of o t) f (Ok (a + 1)) (state_of o u)
+shown o t u f a ok put =
+    let fits = frame_passed o t f (sym ok) in
+    subst₂ (λ s r. Hears s f (Ok r) (state_of o u)) (sym (started_at o t fits.field)) (sym (add-one a))
+    (ok, (u, (put, started_at o u (fits.field ∙ sym put.size))))
 
 module _ (o : Ops) (laws : Lawful o) (t : Held) (sound : Sound o.size t.packets t.symbols t.rows) (some : 1 ≤ t.symbols) (k : ℕ) where
   -- the symbols of a row without other coefficients are the packet

@@ -1,8 +1,6 @@
 -- What a relay holds. Assumes nothing.
-use Rattle.std.specs.Prelude.{ℕ, List, Option}
-use Rattle.std.specs.Option.{option_map}
+use Rattle.std.specs.Prelude.{ℕ, cond, List, Some, None, Option, ◌==◌}
 use Rattle.field.specs.Fields.{Ops}
-use Rattle.field.specs.declared.Field.{Ghosts}
 use Rattle.elimination.specs.Tables.{Held, held}
 use Rattle.relay.specs.declared.Relay.{Relay}
 use Rattle.relay.specs.declared.started.Started.{Started}
@@ -16,10 +14,17 @@ pub record State : Type 0 where
 abbrev pub holding : Ops → ℕ → ℕ → List (List ℕ) → State
 holding o n l rows = record { ops = o; table = record { size = o.size; packets = n; symbols = l; rows = rows } }
 
--- a started relay has its field's meaning and what its table holds
-abbrev pub started_state : {F : Type 0} {g : Ghosts F} → (F → Ops) → Started F g → State
-started_state ops s = record { ops = ops s.field; table = held s.table }
+-- a field and a table: only one that was built for a field of that size counts as started
+abbrev pub state_of : Ops → Held → Option State
+state_of o t = cond (o.size == t.size) (Some (record { ops = o; table = t })) None
+
+abbrev pub started_state : {F : Type 0} → (F → Ops) → Started F → Option State
+started_state ops s = state_of (ops s.field) (held s.table)
 
 -- none for an empty place
-abbrev pub state : {F : Type 0} {g : Ghosts F} → (F → Ops) → Relay F g → Option State
-state ops r = option_map (started_state ops) r.place
+abbrev pub place_state : {F : Type 0} → (F → Ops) → Option (Started F) → Option State
+place_state ops None = None
+place_state ops (Some s) = started_state ops s
+
+abbrev pub state : {F : Type 0} → (F → Ops) → Relay F → Option State
+state ops r = place_state ops r.place

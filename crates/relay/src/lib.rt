@@ -1,7 +1,9 @@
 // A relay: a place that hears coded frames, tells which packets it has seen, and reads those that are determined.
 #![tactic(auto)]
 
-ghost use Rattle.std.specs.Prelude.{◌≡◌, List, None, Option, OnOk};
+ghost use Rattle.std.specs.Prelude.{◌≡◌, List, Some, None, Option, IfOk, IfErr, OnOk};
+ghost use Rattle.elimination.specs.Tables.{held};
+ghost use Rattle.elimination.specs.declared.fault.RowsFault.TheVariants.{NotStarted};
 ghost use Rattle.relay.specs.Calls.{Starts, Hears, seen_answer, Fetches};
 ghost use Rattle.relay.specs.Promise.{Hearing, Reached, Promise};
 ghost use Rattle.relay.specs.States.{State, state};
@@ -16,7 +18,7 @@ use started::Started;
 use std::alloc::Global;
 
 #[derive(Drop)]
-pub struct Relay<F: Field> {
+pub struct Relay<F> {
     place: Option<Started<F>>,
 }
 
@@ -61,7 +63,7 @@ impl<F: Field + Drop> Relay<F> {
     pub fn seen(&self) -> Result<u32, RowsFault>
         ensures { result ≡ seen_answer (state F.ops self.now) }
     {
-        let started = self.place.as_ref().ok_or(RowsFault::NotStarted)?;
+        let started = self.started()?;
         Ok(started.table.seen())
     }
 
@@ -69,7 +71,19 @@ impl<F: Field + Drop> Relay<F> {
     pub fn fetch(&self, packet: usize, buffer: &mut [u16]) -> Result<(), RowsFault>
         ensures { Fetches (state F.ops self.now) packet buffer.old result buffer.new }
     {
-        let started = self.place.as_ref().ok_or(RowsFault::NotStarted)?;
+        let started = self.started()?;
         started.table.fetch(packet, buffer)
+    }
+
+    // The relay that is started, with a table that was built for a field of the size of its own.
+    fn started(&self) -> Result<&Started<F>, RowsFault>
+        ensures fits { IfOk result (λ s. (F.ops s.now.field).size ≡ s.now.table.q) }
+        ensures found { IfOk result (λ s. state F.ops self.now ≡ Some (record { ops = F.ops s.now.field; table = held s.now.table })) }
+        ensures refused { IfErr result (λ e. (e ≡ NotStarted) × (state F.ops self.now ≡ None)) }
+    {
+        self.place
+            .as_ref()
+            .filter(|started| started.table.fits(&started.field))
+            .ok_or(RowsFault::NotStarted)
     }
 }
