@@ -1,9 +1,9 @@
 -- The numbers of a script are digits, and its lines are few. Assumes nothing.
-use Rattle.std.proofs.Common.{◌≡◌, ℕ, zero, suc, ◌+◌, ◌-◌, ◌*◌, ◌<◌, ◌≤◌, true, cond, ◌&&◌, ltb, leb, List, [], ◌∷◌, length, get_or, Some, None, Ok, Err, vec_items, vec_len, Option, Result, Vec, sym, refl, ap, ◌∙◌, subst, arith}
+use Rattle.std.proofs.Common.{◌≡◌, ℕ, zero, suc, ◌+◌, ◌-◌, ◌*◌, ◌<◌, ◌≤◌, true, cond, ◌&&◌, eqb, ltb, leb, List, [], ◌∷◌, length, get_or, Some, None, Ok, Err, vec_items, vec_len, Option, Result, Vec, sym, refl, ap, ◌∙◌, subst, arith}
 use Rattle.std.specs.Char.{is_ascii_digit}
 use Rattle.std.specs.declared.alloc.Global.{Global}
 use Rattle.std.proofs.lemmas.List.{length-map}
-use Rattle.std.proofs.lemmas.Bool.{and_parts, leb-true, ltb-true, ltb-false, or_parts, cond_both}
+use Rattle.std.proofs.lemmas.Bool.{and_parts, leb-true, ltb-true, ltb-false, or_parts, eqb-true, cond_both}
 use Rattle.faults.proofs.Passed.{passed}
 use Rattle.text.specs.declared.fault.LineFault.{LineFault}
 use Rattle.text.specs.declared.fault.LineFault.TheVariants.{NoDigit, WrongCount, NoEnd}
@@ -13,7 +13,7 @@ use Rattle.text.specs.Tables.{lists, number_at}
 use Rattle.text.specs.Scripts.{lines_before, too_long, whole_lines}
 
 -- a digit is a byte from 48 to 57
-digit_range : (b : ℕ) → is_ascii_digit b ≡ true → (48 ≤ b) × (b ≤ 57)
+pub digit_range : (b : ℕ) → is_ascii_digit b ≡ true → (48 ≤ b) × (b ≤ 57)
 digit_range b e = let p = and_parts (leb 48 b) (leb b 57) e in (leb-true 48 b p.0, leb-true b 57 p.1)
 
 one_digit : (f : List ℕ) → 0 < length f → length f ≤ 1 → are_digits f ≡ true → (number_after 0 f ≤ 9) × (f ≡ (48 + number_after 0 f) ∷ [])
@@ -90,3 +90,11 @@ module _ (text : List ℕ) (lines : Vec (Vec ℕ Global) Global) (held : lists (
 
   pub held_digits : (i k : ℕ) → number_at (lists (vec_items lines)) i k ≤ 9
   held_digits i k = subst (λ (ls : List (List ℕ)). number_at ls i k ≤ 9) (sym held) (script_digits text i k)
+
+-- a line of a known width has so many numbers
+pub wide : (w : ℕ) (r : Result (List ℕ) LineFault) (ns : List ℕ) → counted (Some w) r ≡ Ok ns → length ns ≡ w
+wide w (Ok ms) ns e =
+    let p = passed (eqb (length ms) w) ns (Ok ms) (WrongCount (length ms)) (sym e) in
+    let same : ns ≡ ms = let q = p.1 in cc in
+    ap length same ∙ eqb-true (length ms) w p.0
+wide w (Err d) ns e = cc

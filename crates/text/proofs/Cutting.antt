@@ -1,11 +1,11 @@
 -- A text is cut at the first CR LF in it. Assumes nothing.
-use Rattle.std.proofs.Common.{◌≡◌, ℕ, zero, suc, ◌+◌, ◌<◌, ◌≤◌, Bool, true, false, ◌&&◌, eqb, Some, None, Option, Bor, List, [], ◌∷◌, length, get_or, take, drop, sym, refl, ap, ◌∙◌, subst, ap₂, arith}
+use Rattle.std.proofs.Common.{◌≡◌, ℕ, zero, suc, ◌+◌, ◌<◌, ◌≤◌, Bool, true, false, ◌&&◌, eqb, ltb, Some, None, Option, Bor, List, [], ◌∷◌, length, get_or, take, drop, sym, refl, ap, ◌∙◌, subst, ap₂, arith}
 use Rattle.std.specs.declared.slice.Windows.{Windows}
 use Rattle.std.specs.List.{AllWithin, HoldsAt, onto_first}
 use Rattle.std.specs.Option.{MatchOption}
 use Rattle.std.specs.Slice.Iter.{windows_rest, windows_size, windows_steps}
 use Rattle.std.specs.Str.{bytes_eq}
-use Rattle.std.proofs.lemmas.Bool.{cond-true, cond-false, cond_both}
+use Rattle.std.proofs.lemmas.Bool.{and_right, cond-true, cond-false, cond_both, lt-ltb}
 use Rattle.std.proofs.lemmas.Iterator.{YieldsList}
 use Rattle.std.proofs.lemmas.Iterator.Splits.{YieldsList-from_shown_while}
 use Rattle.text.specs.Cuts.{lines_of}
@@ -48,6 +48,13 @@ pair_is b c = ap (λ x. eqb b 13 && x) (and_true (eqb c 10))
     and_true true = refl
     and_true false = refl
 
+-- a byte with which no CR LF begins ends no line
+pub goes_on : (b : ℕ) (bs : List ℕ) → (ltb 0 (length bs) && (eqb b 13 && eqb (get_or bs 0 0) 10)) ≡ false → lines_of (b ∷ bs) ≡ onto_first b (lines_of bs)
+unfolding lines_of
+goes_on b [] e = refl
+goes_on b (c ∷ bs) e = cond-false (eqb b 13 && eqb c 10) ([] ∷ lines_of bs) (onto_first b (lines_of (c ∷ bs)))
+    (sym (ap (λ x. x && (eqb b 13 && eqb c 10)) (lt-ltb 0 (length (c ∷ bs)) (omega arith))) ∙ e)
+
 -- the first pair that is CR LF ends the first line
 line_ended : (t : List ℕ) (i : ℕ) → i < length (pairs t) → is_end (get_or (pairs t) i []) ≡ true → ((k : ℕ) → k < i → is_end (get_or (pairs t) k []) ≡ false)
     → lines_of t ≡ take i t ∷ lines_of (drop (suc (suc i)) t)
@@ -56,7 +63,7 @@ line_ended [] i h here before = absurd (omega arith)
 line_ended (b ∷ []) i h here before = absurd (omega arith)
 line_ended (b ∷ (c ∷ bs)) zero h here before = cond-true (eqb b 13 && eqb c 10) ([] ∷ lines_of bs) (onto_first b (lines_of (c ∷ bs))) (sym (pair_is b c) ∙ here)
 line_ended (b ∷ (c ∷ bs)) (suc i) h here before =
-    cond-false (eqb b 13 && eqb c 10) ([] ∷ lines_of bs) (onto_first b (lines_of (c ∷ bs))) (sym (pair_is b c) ∙ before 0 (omega arith))
+    goes_on b (c ∷ bs) (and_right (ltb 0 (length (c ∷ bs))) (eqb b 13 && eqb c 10) (sym (pair_is b c) ∙ before 0 (omega arith)))
     ∙ ap (onto_first b) (line_ended (c ∷ bs) i (omega arith) here (λ k l. before (suc k) (omega arith)))
 
 -- with no such pair the text is one line
@@ -65,7 +72,7 @@ unfolding lines_of
 line_alone [] h before = absurd (omega arith)
 line_alone (b ∷ []) h before = refl
 line_alone (b ∷ (c ∷ bs)) h before =
-    cond-false (eqb b 13 && eqb c 10) ([] ∷ lines_of bs) (onto_first b (lines_of (c ∷ bs))) (sym (pair_is b c) ∙ before 0 (omega arith))
+    goes_on b (c ∷ bs) (and_right (ltb 0 (length (c ∷ bs))) (eqb b 13 && eqb c 10) (sym (pair_is b c) ∙ before 0 (omega arith)))
     ∙ ap (onto_first b) (line_alone (c ∷ bs) (omega arith) (λ k l. before (suc k) (omega arith)))
 
 -- what `position` gives cuts off the first line

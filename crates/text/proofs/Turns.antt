@@ -23,6 +23,9 @@ pub record Sofar (all done : List (List ℕ)) (w : Option ℕ) (n : ℕ) (left :
   pub lines : lines_before None all ≡ done ++ lines_before w left
   pub fault : first_fault None 1 all ≡ first_fault w n left
 
+pub nothing_read : (all : List (List ℕ)) → Sofar all [] None 1 all
+nothing_read all = record { lines = refl; fault = refl }
+
 pub all_read : {all done : List (List ℕ)} {w : Option ℕ} {n : ℕ} {left : List (List ℕ)} → left ≡ [] → Sofar all done w n left → (first_fault None 1 all ≡ None) × (done ≡ lines_before None all)
 unfolding lines_before first_fault
 all_read {done = done} {w = w} {n = n} none s = (s.fault ∙ ap (first_fault w n) none, sym (s.lines ∙ ap (λ ls. done ++ lines_before w ls) none ∙ append-nil done))
@@ -42,7 +45,7 @@ module _ {all done : List (List ℕ)} {w : Option ℕ} {n : ℕ} {line : List �
     fault = s.fault ∙ ap fault_by h;
   }
 
-  line_refused : {e : LineFault} → line_answer 1 w line ≡ Err e → (first_fault None 1 all ≡ Some (Line n e)) × (done ≡ lines_before None all)
+  pub line_refused : {e : LineFault} → line_answer 1 w line ≡ Err e → (first_fault None 1 all ≡ Some (Line n e)) × (done ≡ lines_before None all)
   unfolding lines_before first_fault
   line_refused h = (s.fault ∙ ap fault_by h, sym (s.lines ∙ ap (λ r. done ++ lines_by r) h ∙ append-nil done))
 

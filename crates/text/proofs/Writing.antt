@@ -4,7 +4,7 @@ use Rattle.std.specs.Char.{is_ascii_digit}
 use Rattle.std.specs.List.{All, onto_first}
 use Rattle.std.proofs.lemmas.List.Splits.{slice_split_none, slice_split_at}
 use Rattle.std.proofs.lemmas.List.{length-map, length-append, append-nil}
-use Rattle.std.proofs.lemmas.Bool.{cond-true, cond-false, and_from, and_left, le-leb, le-ltb, lt-ltb, ne_eqb, eq-eqb, or_from}
+use Rattle.std.proofs.lemmas.Bool.{cond-true, cond-false, and_from, and_left, and_right, le-leb, le-ltb, lt-ltb, ne_eqb, eq-eqb, or_from}
 use Rattle.text.specs.declared.fault.LineFault.{LineFault}
 use Rattle.text.specs.declared.fault.LineFault.TheVariants.{NoDigit, NoEnd, WrongCount}
 use Rattle.text.specs.declared.fault.ScriptFault.{ScriptFault}
@@ -13,6 +13,7 @@ use Rattle.text.specs.Cuts.{lines_of, fields_of, first_of}
 use Rattle.text.specs.Lines.{are_digits, number_after, begins, field_answer, first_then, numbers_from, fits, counted, line_answer}
 use Rattle.text.specs.Scripts.{lines_before, first_fault, too_long, unless, script_answer}
 use Rattle.text.specs.Written.{digits_text, line_text, script_line, script_text, open_script_text, value_after, Digits, ScriptsReadBack, SettingsReadBack}
+use Rattle.text.proofs.Cutting.{goes_on}
 
 -- all of some digits are at most 9
 abbrev Each : List ℕ → Type 0
@@ -89,21 +90,19 @@ line_plain m (f ∷ (g ∷ fs)) w = digits_plain f (w 0 (omega arith)).each (44 
     after p (suc i) x = p i x
 
 -- a byte that is no CR ends no line
-goes_on : (b : ℕ) (bs : List ℕ) → (b ≡ 13 → ⊥) → lines_of (b ∷ bs) ≡ onto_first b (lines_of bs)
-unfolding lines_of
-goes_on b [] ne = refl
-goes_on b (c ∷ bs) ne = cond-false (eqb b 13 && eqb c 10) ([] ∷ lines_of bs) (onto_first b (lines_of (c ∷ bs))) (and_left (eqb b 13) (eqb c 10) (ne_eqb b 13 ne))
+no_cr : (b : ℕ) (bs : List ℕ) → (b ≡ 13 → ⊥) → lines_of (b ∷ bs) ≡ onto_first b (lines_of bs)
+no_cr b bs ne = goes_on b bs (and_right (ltb 0 (length bs)) (eqb b 13 && eqb (get_or bs 0 0) 10) (and_left (eqb b 13) (eqb (get_or bs 0 0) 10) (ne_eqb b 13 ne)))
 
 end_after : (p : List ℕ) → Plain p → (rest : List ℕ) → lines_of (p ++ (13 ∷ (10 ∷ rest))) ≡ p ∷ lines_of rest
 unfolding lines_of
 end_after [] h rest = refl
-end_after (b ∷ p) h rest = goes_on b (p ++ (13 ∷ (10 ∷ rest))) (h 0) ∙ ap (onto_first b) (end_after p (λ i. h (suc i)) rest)
+end_after (b ∷ p) h rest = no_cr b (p ++ (13 ∷ (10 ∷ rest))) (h 0) ∙ ap (onto_first b) (end_after p (λ i. h (suc i)) rest)
 
 no_end : (p : List ℕ) → 1 ≤ length p → Plain p → lines_of p ≡ p ∷ []
 unfolding lines_of
 no_end [] s h = absurd (omega arith)
 no_end (b ∷ []) s h = refl
-no_end (b ∷ (c ∷ p)) s h = goes_on b (c ∷ p) (h 0) ∙ ap (onto_first b) (no_end (c ∷ p) (omega arith) (λ i. h (suc i)))
+no_end (b ∷ (c ∷ p)) s h = no_cr b (c ∷ p) (h 0) ∙ ap (onto_first b) (no_end (c ∷ p) (omega arith) (λ i. h (suc i)))
 
 line_some : (m : ℕ) (fs : List (List ℕ)) → 1 ≤ length fs → Fields m fs → 1 ≤ length (line_text fs)
 line_some m [] s w = absurd (omega arith)
