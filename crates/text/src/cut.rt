@@ -6,7 +6,8 @@ ghost use Rattle.text.specs.Cuts.{lines_of};
 // The first line of a text that is not empty, up to CR LF or to the text's end, and what follows it.
 fn cut_line(text: &[u8]) -> (&[u8], &[u8])
     requires { 0 < length text.now }
-    ensures { lines_of text.now ≡ result.0.now ∷ lines_of result.1.now }
+    ensures lines { lines_of text.now ≡ result.0.now ∷ lines_of result.1.now }
+    ensures shorter { length result.1.now < length text.now }
 {
     match text.windows(2).position(|pair| pair == b"\r\n".as_slice()) {
         Some(end) => (&text[..end], &text[end + 2..]),

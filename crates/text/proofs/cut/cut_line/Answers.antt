@@ -13,9 +13,9 @@ cut c =
     cut_at c.args.text.now c.requires c.position.result
     (IsFirst-from_position _ _ c.position.result (λ p. is_end p ≡ true) (λ p. is_end p ≡ false) c.position.ensures.ran (pairs_yielded c.windows.result c.args.text.now c.windows.ensures.rest c.windows.ensures.size) (λ x q k. search (rules, tests)) (λ x q k. search (rules, tests)))
 
-pub returns-in-Some : goal.returns-in-Some
-returns-in-Some c = rw (take_rest c.args.text.now (c.in-Some.end + 2)) (MatchOption-at_some _ _ c.in-Some.end c.in-Some.is (cut (goal.at.returns-in-Some c).After-position))
+pub returns-in-Some-clause-lines : goal.returns-in-Some-clause-lines
+returns-in-Some-clause-lines c = rw (take_rest c.args.text.now (c.in-Some.end + 2)) (MatchOption-at_some _ _ c.in-Some.end c.in-Some.is (cut (goal.at.returns-in-Some-clause-lines c).After-position))
 
-pub returns-in-None : goal.returns-in-None
+pub returns-in-None-clause-lines : goal.returns-in-None-clause-lines
 unfolding lines_of
-returns-in-None c = MatchOption-at_none _ _ c.in-None.is (cut (goal.at.returns-in-None c).After-position)
+returns-in-None-clause-lines c = MatchOption-at_none _ _ c.in-None.is (cut (goal.at.returns-in-None-clause-lines c).After-position)
