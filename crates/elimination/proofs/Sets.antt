@@ -1,10 +1,8 @@
 -- The set of seen packets, bit by bit. Assumes nothing.
-use Rattle.std.proofs.Common.{◌≡◌, ℕ, ◌+◌, ◌*◌, ◌%◌, ◌^◌, ◌<◌, ◌⊎◌, List, vec_items, sym, refl, ap, ◌∙◌, subst, ap₂, inl, inr, add-zero, mod-eq_of_lt, add_comm, one-mul, pow-suc, zero-mul, add-one, arith}
+use Rattle.std.proofs.Common.{◌≡◌, ℕ, ◌+◌, ◌*◌, ◌%◌, ◌^◌, ◌<◌, ◌≤◌, ◌⊎◌, List, sym, refl, ap, ◌∙◌, subst, ap₂, inl, inr, add-zero, mod-eq_of_lt, add_comm, one-mul, pow-suc, zero-mul, add-one, arith}
 use lib.Bits.{bit_or, or_shifted_r}
 use lib.Pow.{pow-lt}
 use Rattle.algebra.specs.Rows.{row_at}
-use Rattle.elimination.specs.declared.table.Table.{Table}
-use Rattle.elimination.specs.Reduction.{lists}
 use Rattle.elimination.specs.Sound.{Sound}
 use Rattle.elimination.specs.Tables.{seen_set}
 use Rattle.elimination.proofs.Tabling.{sound_at}
@@ -43,19 +41,14 @@ counted_none rows m s c e = (
 )
 
 -- one turn of counting
-pub counted_turn : (t : Table) (m s next x : ℕ) → m < t.shape.packets → Counted (lists (vec_items t.rows)) m s → x ≡ row_at (lists (vec_items t.rows)) m m
-    → ((x ≡ 0 → ⊥) × (next ≡ bit_or s ((1 * 2 ^ m) % 4294967296))) ⊎ ((x ≡ 0) × (next ≡ s)) → Counted (lists (vec_items t.rows)) (m + 1) next
-counted_turn t m s next x h c e (inl there) =
-    subst (Counted rows (m + 1)) (sym there.1) (counted_one rows m s (omega (arith, h, t.shape.few_packets)) c (lead (sound.reduced.lead m h)))
+pub counted_turn : (q n l : ℕ) (rows : List (List ℕ)) (m s t x : ℕ) → ∥ Sound q n l rows ∥₁ → m < n → n ≤ 32 → Counted rows m s → x ≡ row_at rows m m
+    → ((x ≡ 0 → ⊥) × (t ≡ bit_or s ((1 * 2 ^ m) % 4294967296))) ⊎ ((x ≡ 0) × (t ≡ s)) → Counted rows (m + 1) t
+counted_turn q n l rows m s t x sound h few c e (inl there) =
+    let whole : Sound q n l rows = sound_at refl sound in
+    subst (Counted rows (m + 1)) (sym there.1) (counted_one rows m s (omega (arith, h, few)) c (lead (whole.reduced.lead m h)))
   where
-    rows : List (List ℕ)
-    rows = lists (vec_items t.rows)
-
-    sound : Sound t.q t.shape.packets t.shape.symbols rows
-    sound = sound_at refl t.sound
-
     lead : (row_at rows m m ≡ 1) ⊎ ((i : ℕ) → row_at rows m i ≡ 0) → row_at rows m m ≡ 1
     lead (inl one) = one
     lead (inr none) = absurd (there.0 (e ∙ none m))
-counted_turn t m s next x h c e (inr missing) =
-    subst (Counted (lists (vec_items t.rows)) (m + 1)) (sym missing.1) (counted_none (lists (vec_items t.rows)) m s c (sym e ∙ missing.0))
+counted_turn q n l rows m s t x sound h few c e (inr missing) =
+    subst (Counted rows (m + 1)) (sym missing.1) (counted_none rows m s c (sym e ∙ missing.0))

@@ -14,7 +14,6 @@ use Rattle.algebra.specs.Frames.{code_at, Codes, Frame, Frames, InSpan}
 use Rattle.algebra.specs.Packets.{Bare, BecomesSeen, Conflicts}
 use Rattle.algebra.specs.Rows.{row_at, Reduced, ReducedForm, rest_at, scaled_at, Inserted}
 use Rattle.algebra.proofs.Forms.{inserted_form, inserted_seen, nothing_left, rest_past, symbol_left}
-use Rattle.elimination.specs.declared.table.Table.{Table}
 use Rattle.elimination.specs.Reduction.{lists, rest_row, NoCoefficient, FirstCoefficient, multiple, Insertable, with_row, Spanned, NewRow}
 use Rattle.elimination.specs.Sound.{Sound}
 use Rattle.elimination.proofs.Remainder.{length_rest, read_row}
@@ -186,11 +185,11 @@ pub record Read (n l m : ℕ) (rows : List (List ℕ)) (row : List ℕ) : Type 0
   pub is : row ≡ get_or rows m []
   pub long : length row ≡ n + l
 
-pub read : (t : Table) {m : ℕ} {v : Vec ℕ Global} {row : List ℕ} → m < t.shape.packets → v ≡ get_or (vec_items t.rows) m v → row ≡ vec_items v → Read t.shape.packets t.shape.symbols m (lists (vec_items t.rows)) row
-read t {m} {v} {row} h e same =
-    let s : Sound t.q t.shape.packets t.shape.symbols (lists (vec_items t.rows)) = sound_at refl t.sound in
-    let here : m < length (lists (vec_items t.rows)) = subst (λ (x : ℕ). m < x) (sym s.reduced.tall) h in
-    let is : row ≡ get_or (lists (vec_items t.rows)) m [] = read_row (vec_items t.rows) m v row (subst (λ (x : ℕ). m < x) (length-map (vec_items t.rows) vec_items) here) e same in
+pub read : {q n l : ℕ} (items : List (Vec ℕ Global)) → ∥ Sound q n l (lists items) ∥₁ → (m : ℕ) → m < n → {v : Vec ℕ Global} → v ≡ get_or items m v → (row : List ℕ) → row ≡ vec_items v → Read n l m (lists items) row
+read {q} {n} {l} items sound m h {v} e row same =
+    let s : Sound q n l (lists items) = sound_at refl sound in
+    let here : m < length (lists items) = subst (λ (x : ℕ). m < x) (sym s.reduced.tall) h in
+    let is : row ≡ get_or (lists items) m [] = read_row items m v row (subst (λ (x : ℕ). m < x) (length-map items vec_items) here) e same in
     record { is = is; long = ap length is ∙ (s.frames m here).long }
 
 -- a place and the coefficient there: the lead's or 0, and neither of them

@@ -15,14 +15,18 @@ module _ (o : Ops) (a b : List ℕ) where
   unfolding summed
   summed_none laws = record { is = refl; code = le_trans (lit≤ tt) laws.size_least }
 
-  pub summed_more : Lawful o → (i sum product next : ℕ) → code_at a i < o.size → code_at b i < o.size → Summed i sum
-      → Ok product ≡ product_answer o (code_at a i) (code_at b i) → Ok next ≡ sum_answer o sum product → Summed (i + 1) next
+  pub summed_more : (i sum product next : ℕ) → Summed i sum → product ≡ o.product (code_at a i) (code_at b i) → next ≡ o.sum sum product → next < o.size → Summed (i + 1) next
   unfolding summed
-  summed_more laws i sum product next ha hb s by_product by_sum =
+  summed_more i sum product next s p e code = record {
+    is = e ∙ ap₂ o.sum s.is p ∙ ap (λ n. summed o n (λ m. o.product (code_at a m) (code_at b m))) (sym (add-one i));
+    code = code;
+  }
+
+  -- the same by the answers of a field's calls
+  pub summed_answered : Lawful o → (i sum product next : ℕ) → code_at a i < o.size → code_at b i < o.size → Summed i sum
+      → Ok product ≡ product_answer o (code_at a i) (code_at b i) → Ok next ≡ sum_answer o sum product → Summed (i + 1) next
+  summed_answered laws i sum product next ha hb s by_product by_sum =
       let p = answered_two o.size o.product (code_at a i) (code_at b i) product ha hb by_product in
       let hp = subst (λ (x : ℕ). x < o.size) (sym p) (laws.product_closed _ _ ha hb) in
       let e = answered_two o.size o.sum sum product next s.code hp by_sum in
-      record {
-        is = e ∙ ap₂ o.sum s.is p ∙ ap (λ n. summed o n (λ m. o.product (code_at a m) (code_at b m))) (sym (add-one i));
-        code = subst (λ (x : ℕ). x < o.size) (sym e) (laws.sum_closed _ _ s.code hp);
-      }
+      summed_more i sum product next s p e (subst (λ (x : ℕ). x < o.size) (sym e) (laws.sum_closed _ _ s.code hp))

@@ -1,5 +1,6 @@
 use Rattle.std.proofs.Common.{◌<◌, get_or, length, vec_items, refl, ap, ◌∙◌, inl, inr, arith, lit<}
 use Rattle.std.proofs.lemmas.List.{get_or_read}
+use Rattle.elimination.specs.Reduction.{lists}
 use Rattle.elimination.specs.Tables.{seen_set}
 use Rattle.elimination.proofs.Sets.{counted_turn}
 use Rattle.elimination.proofs.Tabling.{read}
@@ -16,7 +17,7 @@ index-requires c =
     let m = c.loop-m.m in
     let v = c.row-item.result in
     let within : m < t.shape.packets = omega (arith, c.loop-m-test.true, c.deref-row-items.ensures.len, t.tall) in
-    let r = read t within (c.row-item.is ∙ ap (λ rows. get_or rows m v) c.deref-row-items.ensures.value) refl in
+    let r = read (vec_items t.rows) t.sound m within (c.row-item.is ∙ ap (λ rows. get_or rows m v) c.deref-row-items.ensures.value) _ refl in
     omega (arith, r.long, within, v.ok.0)
 
 pub loop-m-preserved : goal.loop-m-preserved
@@ -26,8 +27,8 @@ loop-m-preserved c =
     let v = c.row-item.result in
     let x = c.index.result.now in
     let within : m < t.shape.packets = omega (arith, c.loop-m-test.true, c.deref-row-items.ensures.len, t.tall) in
-    let r = read t within (c.row-item.is ∙ ap (λ rows. get_or rows m v) c.deref-row-items.ensures.value) refl in
+    let r = read (vec_items t.rows) t.sound m within (c.row-item.is ∙ ap (λ rows. get_or rows m v) c.deref-row-items.ensures.value) _ refl in
     let wide : m < length (vec_items v) = omega (arith, r.long, within) in
-    counted_turn t m c.loop-m.seen c.if-index-ne0.seen x within c.loop-m.invariant
+    counted_turn t.q t.shape.packets t.shape.symbols (lists (vec_items t.rows)) m c.loop-m.seen c.if-index-ne0.seen x t.sound within t.shape.few_packets c.loop-m.invariant
     (get_or_read (vec_items v) m x wide c.index.ensures 0 ∙ ap (λ row. get_or row m 0) r.is)
     (elim c.if-index-ne0.branch [ then-index-ne0 w ↦ inl (w.if-index-ne0.true, w.seen-is) | else-index-ne0 w ↦ inr (w.if-index-ne0.false, w.seen-is) ])
