@@ -30,6 +30,9 @@ single_few counts single i = omega (arith, single i)
 pub each_counted : (f : ℕ → ℕ) (b n : ℕ) → ((k : ℕ) → f k ≤ b) → (i : ℕ) → slice_index (map f (range_with_len 0 n)) i ≤ b
 each_counted f b n h i = grind (arith, common_steps, h i, length-map-range_with_len f 0 n, get_or-map-range_with_len f 0 n i i 0)
 
+pub none_few : (i : ℕ) → slice_index no_copies i ≤ 9
+none_few i = grind (arith, common_steps)
+
 module _ (script : Script) (t : ℕ) where
   abbrev digit : ℕ → ℕ
   digit = number_at (script_lines script) (t - 1)
