@@ -31,8 +31,8 @@ impl Slots {
         if self.left == 0 {
             return Err(LinkFault::NoSlotLeft);
         }
-        self.frame.clear();
-        self.frame.try_extend_from_slice(frame).unwrap();
+        // Made anew, since clearing the old one would write blanks over its codes first.
+        self.frame = ArrayVec::try_from(frame).unwrap();
         self.left -= 1;
         self.carried += 1;
         Ok(())
