@@ -1,15 +1,15 @@
-// The integers modulo a prime q of which q - 2 is all ones in binary, written once for every such q.
+// The integers modulo a prime q of which q - 2 is all ones in binary: the calls of such a field, written once for every such q.
+// Each of these fields has an impl of `Field` of its own, of one call in a line. One impl for every `Modulus` would match every
+// type, and then the check does not know which impl is meant at a type that is generic over fields.
 ghost use Rattle.std.specs.Prelude.{◌≡◌, ℕ, ◌-◌, ◌^◌, ◌<◌, ◌≤◌, true};
-ghost use Rattle.std.proofs.Common.{lit≤, le_trans};
-ghost use Rattle.field.specs.Answers.{two_answer, one_answer};
+ghost use Rattle.field.specs.Answers.{two_answer, one_answer, sum_answer, difference_answer, product_answer, inverse_answer};
 ghost use Rattle.field.specs.Residues.{residues};
-ghost use Rattle.field.specs.Remainders.{invertible, residues_lawful};
+ghost use Rattle.field.specs.Remainders.{invertible};
 ghost use Rattle.field.specs.Tests.{all_below};
 
-use super::Field;
 use super::fault::FieldFault;
 
-// A field of integers modulo q, by its q: what implements this implements `Field`.
+// A field of integers modulo q, by its q.
 pub trait Modulus {
     const Q: u16;
 
@@ -31,42 +31,46 @@ pub trait Modulus {
     ghost inverses: { all_below (invertible Q TURNS) (Q - 1) ≡ true };
 }
 
+pub(crate) fn size<M: Modulus>() -> u32
+    ensures { result ≡ (residues M.Q).size }
+{
+    u32::from(M::Q)
+}
+
+pub(crate) fn sum<M: Modulus>(a: u16, b: u16) -> Result<u16, FieldFault>
+    ensures { result ≡ sum_answer (residues M.Q) a b }
+{
+    check_two(M::Q, a, b)?;
+    Ok((a + b) % M::Q)
+}
+
+pub(crate) fn difference<M: Modulus>(a: u16, b: u16) -> Result<u16, FieldFault>
+    ensures { result ≡ difference_answer (residues M.Q) a b }
+{
+    check_two(M::Q, a, b)?;
+    Ok((a + (M::Q - b)) % M::Q)
+}
+
 // Remainders are narrowed by casts, since `try_from` would have a case that never comes.
-impl<M: Modulus> Field for M {
-    ghost ops = { λ _. residues M.Q };
+pub(crate) fn product<M: Modulus>(a: u16, b: u16) -> Result<u16, FieldFault>
+    ensures { result ≡ product_answer (residues M.Q) a b }
+{
+    check_two(M::Q, a, b)?;
+    Ok((u32::from(a) * u32::from(b) % u32::from(M::Q)) as u16)
+}
 
-    ghost lawful = { λ f. residues_lawful M.Q M.TURNS M.least (le_trans M.most (lit≤ tt)) M.turned M.inverses };
-
-    fn size(&self) -> u32 {
-        u32::from(M::Q)
+// The power q - 2: each turn squares and multiplies, and so writes a one behind the exponent in binary.
+pub(crate) fn inverse<M: Modulus>(a: u16) -> Result<u16, FieldFault>
+    ensures { result ≡ inverse_answer (residues M.Q) a }
+{
+    check_inverse(M::Q, a)?;
+    let q = u32::from(M::Q);
+    let base = u32::from(a);
+    let mut power = 1;
+    for _turn in 0..M::TURNS {
+        power = power * power % q * base % q;
     }
-
-    fn sum(&self, a: u16, b: u16) -> Result<u16, FieldFault> {
-        check_two(M::Q, a, b)?;
-        Ok((a + b) % M::Q)
-    }
-
-    fn difference(&self, a: u16, b: u16) -> Result<u16, FieldFault> {
-        check_two(M::Q, a, b)?;
-        Ok((a + (M::Q - b)) % M::Q)
-    }
-
-    fn product(&self, a: u16, b: u16) -> Result<u16, FieldFault> {
-        check_two(M::Q, a, b)?;
-        Ok((u32::from(a) * u32::from(b) % u32::from(M::Q)) as u16)
-    }
-
-    // The power q - 2: each turn squares and multiplies, and so writes a one behind the exponent in binary.
-    fn inverse(&self, a: u16) -> Result<u16, FieldFault> {
-        check_inverse(M::Q, a)?;
-        let q = u32::from(M::Q);
-        let base = u32::from(a);
-        let mut power = 1;
-        for _turn in 0..M::TURNS {
-            power = power * power % q * base % q;
-        }
-        Ok(power as u16)
-    }
+    Ok(power as u16)
 }
 
 // Refuses two numbers of which one is no code.

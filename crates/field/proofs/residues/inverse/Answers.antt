@@ -1,7 +1,7 @@
 use Rattle.std.proofs.Common.{◌≡◌, arith, rules}
 use Rattle.field.specs.Residues.{residues}
 use Rattle.field.specs.Remainders.{inverse_turns}
-use Rattle.field.proofs.residues.AnyField.inverse.Goals as goal
+use Rattle.field.proofs.residues.inverse.Goals as goal
 
 pub returns : goal.returns
 returns g c =
