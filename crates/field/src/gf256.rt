@@ -7,6 +7,7 @@ ghost use Rattle.field.specs.Polynomials.{gf256_lawful};
 
 use super::Field;
 use super::fault::FieldFault;
+use super::residues::check_two;
 use tables::{exp, log};
 
 mod tables;
@@ -24,7 +25,8 @@ impl Field for Gf256 {
     }
 
     fn sum(&self, a: u16, b: u16) -> Result<u16, FieldFault> {
-        Ok(u16::from(byte(a)? ^ byte(b)?))
+        check_two(256, a, b)?;
+        Ok(a ^ b)
     }
 
     // Every code is its own negative.
@@ -33,7 +35,9 @@ impl Field for Gf256 {
     }
 
     fn product(&self, a: u16, b: u16) -> Result<u16, FieldFault> {
-        Ok(u16::from(times(byte(a)?, byte(b)?)))
+        // Both numbers are tested at once: where each is made a byte by itself, rows take a third longer.
+        check_two(256, a, b)?;
+        Ok(u16::from(times(a as u8, b as u8)))
     }
 
     fn inverse(&self, a: u16) -> Result<u16, FieldFault> {

@@ -31,36 +31,39 @@ pub trait Modulus {
     ghost inverses: { all_below (invertible Q TURNS) (Q - 1) ≡ true };
 }
 
-pub(crate) fn size<M: Modulus>() -> u32
+// How many codes there are.
+pub fn size<M: Modulus>() -> u32
     ensures { result ≡ (residues M.Q).size }
 {
     u32::from(M::Q)
 }
 
-pub(crate) fn sum<M: Modulus>(a: u16, b: u16) -> Result<u16, FieldFault>
+// The sum of two codes.
+pub fn sum<M: Modulus>(a: u16, b: u16) -> Result<u16, FieldFault>
     ensures { result ≡ sum_answer (residues M.Q) a b }
 {
     check_two(M::Q, a, b)?;
     Ok((a + b) % M::Q)
 }
 
-pub(crate) fn difference<M: Modulus>(a: u16, b: u16) -> Result<u16, FieldFault>
+// The difference of two codes.
+pub fn difference<M: Modulus>(a: u16, b: u16) -> Result<u16, FieldFault>
     ensures { result ≡ difference_answer (residues M.Q) a b }
 {
     check_two(M::Q, a, b)?;
     Ok((a + (M::Q - b)) % M::Q)
 }
 
-// Remainders are narrowed by casts, since `try_from` would have a case that never comes.
-pub(crate) fn product<M: Modulus>(a: u16, b: u16) -> Result<u16, FieldFault>
+// The product of two codes. Remainders are narrowed by casts, since `try_from` would have a case that never comes.
+pub fn product<M: Modulus>(a: u16, b: u16) -> Result<u16, FieldFault>
     ensures { result ≡ product_answer (residues M.Q) a b }
 {
     check_two(M::Q, a, b)?;
     Ok((u32::from(a) * u32::from(b) % u32::from(M::Q)) as u16)
 }
 
-// The power q - 2: each turn squares and multiplies, and so writes a one behind the exponent in binary.
-pub(crate) fn inverse<M: Modulus>(a: u16) -> Result<u16, FieldFault>
+// The inverse of a code, its power q - 2: each turn squares and multiplies, and so writes a one behind the exponent in binary.
+pub fn inverse<M: Modulus>(a: u16) -> Result<u16, FieldFault>
     ensures { result ≡ inverse_answer (residues M.Q) a }
 {
     check_inverse(M::Q, a)?;
@@ -74,7 +77,7 @@ pub(crate) fn inverse<M: Modulus>(a: u16) -> Result<u16, FieldFault>
 }
 
 // Refuses two numbers of which one is no code.
-fn check_two(q: u16, a: u16, b: u16) -> Result<(), FieldFault>
+pub(crate) fn check_two(q: u16, a: u16, b: u16) -> Result<(), FieldFault>
     ensures { result ≡ two_answer q a b }
 {
     if a >= q || b >= q {
