@@ -33,17 +33,39 @@ pub struct Line {
     pub remark: Option<Remark>,
 }
 
+impl Word {
+    // The word that is printed.
+    pub fn text(self) -> &'static str
+        ensures { result.now ≡ word_text self }
+    {
+        match self {
+            Word::Sent => "sent",
+            Word::Coded => "coded",
+            Word::Rebuilt => "rebuilt",
+        }
+    }
+}
+
 impl fmt::Display for Word {
     ghost output = { λ w. Some (word_text w) };
 
     ghost styled_output = { λ w spec. Some (padded spec (word_text w)) };
 
     fn fmt<W: fmt::Write>(&self, f: &mut fmt::Formatter<W>) -> fmt::Result {
-        f.pad(match self {
-            Word::Sent => "sent",
-            Word::Coded => "coded",
-            Word::Rebuilt => "rebuilt",
-        })
+        f.pad(self.text())
+    }
+}
+
+impl Remark {
+    // The remark as it is printed, set off by two spaces.
+    pub fn text(self) -> &'static str
+        ensures { result.now ≡ remark_text self }
+    {
+        match self {
+            Remark::Lost => "  lost on the way",
+            Remark::Equal => "  equals what was sent",
+            Remark::Different => "  differs from what was sent",
+        }
     }
 }
 
@@ -51,11 +73,7 @@ impl fmt::Display for Remark {
     ghost output = { λ r. Some (remark_text r) };
 
     fn fmt<W: fmt::Write>(&self, f: &mut fmt::Formatter<W>) -> fmt::Result {
-        f.write_str(match self {
-            Remark::Lost => "  lost on the way",
-            Remark::Equal => "  equals what was sent",
-            Remark::Different => "  differs from what was sent",
-        })
+        f.write_str(self.text())
     }
 }
 
