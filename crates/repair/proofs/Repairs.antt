@@ -54,8 +54,14 @@ module _ (o : Ops) (laws : Lawful o) where
   zero_code = le_trans (lit≤ tt) laws.size_least
 
   -- taking away a negative multiple of p adds the multiple
-  add_term : (x c p : ℕ) → x < o.size → c < o.size → p < o.size → o.difference x (o.product (o.difference 0 c) p) ≡ o.sum x (o.product c p)
-  add_term x c p hx hc hp = ap (λ e. e.0) (sub_negative (elements o laws) (x, hx) (c, hc) (p, hp))
+  add_one_term : (x c p : ℕ) → x < o.size → c < o.size → p < o.size → o.difference x (o.product (o.difference 0 c) p) ≡ o.sum x (o.product c p)
+  add_one_term x c p hx hc hp = ap (λ e. e.0) (sub_negative (elements o laws) (x, hx) (c, hc) (p, hp))
+
+  -- and so it adds a term to what is summed with the rest
+  pub add_term : (x c p rest : ℕ) → x < o.size → c < o.size → p < o.size → rest < o.size
+      → o.sum (o.difference x (o.product (o.difference 0 c) p)) rest ≡ o.sum x (o.sum (o.product c p) rest)
+  add_term x c p rest hx hc hp hr =
+      ap (λ y. o.sum y rest) (add_one_term x c p hx hc hp) ∙ laws.sum_assoc x (o.product c p) rest hx (laws.product_closed c p hc hp) hr
 
   -- a term is taken out of a sum
   pub take_term : (m x s : ℕ) → m < o.size → x < o.size → s < o.size → o.difference (o.sum m (o.sum x s)) x ≡ o.sum m s
@@ -97,7 +103,7 @@ module _ (o : Ops) (laws : Lawful o) where
         sums : less_multiple o t n s ≡ plus_multiple o t f s
         sums = same_map (less_at o t n s) (λ j. o.sum (get_or t j 0) (o.product f (get_or s j 0))) (length t)
             (λ j l. ap (λ y. o.difference (get_or t j 0) (o.product y (get_or s j 0))) e
-            ∙ add_term (get_or t j 0) f (get_or s j 0) (fit.target_codes j l) fit.factor_code (fit.source_codes j (subst (λ (m : ℕ). j < m) (sym fit.long) l)))
+            ∙ add_one_term (get_or t j 0) f (get_or s j 0) (fit.target_codes j l) fit.factor_code (fit.source_codes j (subst (λ (m : ℕ). j < m) (sym fit.long) l)))
 
     at_plus : (j : ℕ) → j < length t → get_or (plus_multiple o t f s) j 0 ≡ o.sum (get_or t j 0) (o.product f (get_or s j 0))
     at_plus j l = get_or-map-range_with_len (λ i. o.sum (get_or t i 0) (o.product f (get_or s i 0))) 0 (length t) j j 0 l (omega arith)
