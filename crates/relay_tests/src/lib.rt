@@ -2,6 +2,8 @@
 
 // Tests of veto sums and of the relay, at all three fields.
 #[cfg(test)]
+mod holders;
+#[cfg(test)]
 mod loads;
 #[cfg(test)]
 mod refusals;
