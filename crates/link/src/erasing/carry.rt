@@ -1,6 +1,5 @@
 // A layer made, and its calls.
-ghost use Rattle.std.specs.Prelude.{◌≡◌, ◌<◌, slice_index};
-ghost use Rattle.link.specs.Counts.{erases};
+ghost use Rattle.std.specs.Prelude.{◌≡◌};
 ghost use Rattle.link.specs.Erased.{erased, erased_for, nothing_to_read};
 ghost use Rattle.link.specs.Erasures.{erased_lawful};
 
@@ -9,11 +8,13 @@ use super::super::{Link, relay_index};
 use super::{Erasing, Periods};
 
 impl Periods {
-    // Whether the period at this place, counted from 0, erases a slot.
-    fn erase(&self, place: usize, slot: u16) -> bool
-        requires { place < 8 }
-        ensures { result ≡ erases (slice_index self.now.of place) slot }
+    // Whether the period of a relay erases a slot.
+    fn erase(&self, relay: usize, slot: u16) -> bool
+        ensures { result ≡ erased_for self.now.of slot relay }
     {
+        let Ok(place) = relay_index(relay) else {
+            return false;
+        };
         let period = u16::from(self.of[place]);
         period > 0 && slot % period == 0
     }
@@ -28,15 +29,12 @@ impl<L: Link> Erasing<L> {
         Erasing { lower, periods }
     }
 
-    // Whether the copies for a relay are erased. The link below is asked for its slots only where there is such a relay: in a pile
+    // Whether the copies for a relay are erased. Where there is no such relay the link below is not asked for its slots: in a pile
     // of layers each question goes down to the bottom.
     fn erased(&self, relay: usize) -> bool
         ensures { result ≡ erased_for self.now.periods.of (L.meaning self.now.lower).carried relay }
     {
-        let Ok(place) = relay_index(relay) else {
-            return false;
-        };
-        self.periods.erase(place, self.lower.slots_carried())
+        relay_index(relay).is_ok() && self.periods.erase(relay, self.lower.slots_carried())
     }
 
     // Why a relay whose copies are erased is refused: the link below tells whether the buffer has the frame's length. The room is
