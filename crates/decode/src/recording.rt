@@ -28,7 +28,7 @@ fn read_codes(heap: Global, bytes: &[u8]) -> Result<Vec<u16>, AllocError>
 }
 
 // Whole frames, one after another.
-#[tactic(auto, using(crate::proofs::Cutting::frames_turn))]
+#[tactic(auto, using(crate::proofs::Cutting::frames_turn, std::proofs::lemmas::Grind::common_steps))]
 fn cut(heap: Global, codes: &[u16], width: usize) -> Result<Vec<Vec<u16>>, AllocError>
     requires { 0 < width }
     ensures { IfOk result (λ v. lists v.items ≡ frames_of codes.now width) }

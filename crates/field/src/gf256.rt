@@ -5,9 +5,8 @@ ghost use Rattle.field.specs.Answers.{code_answer};
 ghost use Rattle.field.specs.Gf256.{gf256, gf256_product};
 ghost use Rattle.field.specs.Polynomials.{gf256_lawful};
 
-use super::Field;
 use super::fault::FieldFault;
-use super::residues::check_two;
+use super::{Field, check_two};
 use tables::{exp, log};
 
 mod tables;
@@ -35,7 +34,7 @@ impl Field for Gf256 {
     }
 
     fn product(&self, a: u16, b: u16) -> Result<u16, FieldFault> {
-        // Both numbers are tested at once: where each is made a byte by itself, rows take a third longer.
+        // Both numbers are tested at once: where each is made a byte by itself, a veto sum takes a third longer.
         check_two(256, a, b)?;
         Ok(u16::from(times(a as u8, b as u8)))
     }

@@ -3,7 +3,7 @@
 
 ghost use Rattle.std.specs.Prelude.{◌≡◌};
 ghost use Rattle.field.specs.Fields.{Ops, Lawful};
-ghost use Rattle.field.specs.Answers.{sum_answer, difference_answer, product_answer, inverse_answer};
+ghost use Rattle.field.specs.Answers.{two_answer, sum_answer, difference_answer, product_answer, inverse_answer};
 ghost use Rattle.field.specs.Cases.{FieldCases};
 
 pub mod fault;
@@ -34,6 +34,16 @@ pub trait Field {
         ensures { result ≡ inverse_answer (ops self.now) a };
 
     ghost lawful: { (f : Self) → Lawful (ops f) };
+}
+
+// Refuses two numbers of which one is no code.
+pub(crate) fn check_two(q: u16, a: u16, b: u16) -> Result<(), FieldFault>
+    ensures { result ≡ two_answer q a b }
+{
+    if a >= q || b >= q {
+        return Err(FieldFault::CodeTooLarge);
+    }
+    Ok(())
 }
 
 // The worked cases hold of the definitions that the fields' contracts cite.

@@ -2,11 +2,12 @@
 // Each of these fields has an impl of `Field` of its own, of one call in a line. One impl for every `Modulus` would match every
 // type, and then the check does not know which impl is meant at a type that is generic over fields.
 ghost use Rattle.std.specs.Prelude.{◌≡◌, ℕ, ◌-◌, ◌^◌, ◌<◌, ◌≤◌, true};
-ghost use Rattle.field.specs.Answers.{two_answer, one_answer, sum_answer, difference_answer, product_answer, inverse_answer};
+ghost use Rattle.field.specs.Answers.{one_answer, sum_answer, difference_answer, product_answer, inverse_answer};
 ghost use Rattle.field.specs.Residues.{residues};
 ghost use Rattle.field.specs.Remainders.{invertible};
 ghost use Rattle.field.specs.Tests.{all_below};
 
+use super::check_two;
 use super::fault::FieldFault;
 
 // A field of integers modulo q, by its q.
@@ -74,16 +75,6 @@ pub fn inverse<M: Modulus>(a: u16) -> Result<u16, FieldFault>
         power = power * power % q * base % q;
     }
     Ok(power as u16)
-}
-
-// Refuses two numbers of which one is no code.
-pub(crate) fn check_two(q: u16, a: u16, b: u16) -> Result<(), FieldFault>
-    ensures { result ≡ two_answer q a b }
-{
-    if a >= q || b >= q {
-        return Err(FieldFault::CodeTooLarge);
-    }
-    Ok(())
 }
 
 // Refuses a number that is no code, and 0, which has no inverse.
