@@ -10,6 +10,7 @@ pub mod fault;
 pub mod gf2;
 pub mod gf256;
 pub mod modulo_257;
+pub mod residue_field;
 pub mod residues;
 
 use fault::FieldFault;

@@ -1,6 +1,7 @@
 // The integers modulo a prime q of which q - 2 is all ones in binary: the calls of such a field, written once for every such q.
-// Each of these fields has an impl of `Field` of its own, of one call in a line. One impl for every `Modulus` would match every
-// type, and then the check does not know which impl is meant at a type that is generic over fields.
+// Of these GF(2) and the integers modulo 257, which are delivered, have an impl of `Field` each, of one call in a line; every modulus
+// has a field by the type `ResidueField`. One impl for every `Modulus` would match every type, and then the check does not know which
+// impl is meant at a type that is generic over fields.
 ghost use Rattle.std.specs.Prelude.{◌≡◌, ℕ, ◌-◌, ◌^◌, ◌<◌, ◌≤◌, true};
 ghost use Rattle.field.specs.Answers.{one_answer, sum_answer, difference_answer, product_answer, inverse_answer};
 ghost use Rattle.field.specs.Residues.{residues};

@@ -11,3 +11,5 @@ mod gf256;
 mod modulo_257;
 #[cfg(test)]
 mod refusals;
+#[cfg(test)]
+mod residue_field;

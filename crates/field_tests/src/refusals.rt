@@ -1,10 +1,13 @@
 // What each field refuses, and how the refusal is told.
+use crate::residue_field::Modulo17;
 use faults::{Fault, Layer, Refusal};
 use field::Field;
 use field::fault::FieldFault;
 use field::gf2::Gf2;
 use field::gf256::Gf256;
 use field::modulo_257::Modulo257;
+use field::residue_field::ResidueField;
+use std::marker::PhantomData;
 use std::process::Abort;
 
 const LAYERS: [(Layer, &str); 7] = [
@@ -30,6 +33,11 @@ fn gf256_refuses(rt: HostRuntime) {
 #[test]
 fn gf2_refuses(rt: HostRuntime) {
     check_edges(&rt, &Gf2, 2);
+}
+
+#[test]
+fn modulo_17_refuses(rt: HostRuntime) {
+    check_edges(&rt, &ResidueField::<Modulo17>(PhantomData), 17);
 }
 
 #[test]

@@ -5,12 +5,15 @@ ghost use Rattle.std.proofs.Common.{lit<, lit≤};
 ghost use Rattle.field.specs.Residues.{gf2};
 ghost use Rattle.field.specs.Remainders.{residues_lawful};
 
+use crate::moduli::Modulo5;
 use field::Field;
 use field::fault::FieldFault;
 use field::gf2::Gf2;
 use field::gf256::Gf256;
 use field::modulo_257::Modulo257;
+use field::residue_field::ResidueField;
 use relay::Relay;
+use std::marker::PhantomData;
 
 #[derive(Drop)]
 struct Site<F> {
@@ -75,6 +78,15 @@ fn codes_of_fields(rt: HostRuntime) {
         code: 256,
     };
     assert_eq!(rt; byte.field.sum(byte.code, byte.code), Ok(0));
+    assert_eq!(rt; last.field.sum(last.code, 1), Ok(0));
+}
+
+#[test]
+fn code_of_a_modulus(rt: HostRuntime) {
+    let last = Code {
+        field: ResidueField::<Modulo5>(PhantomData),
+        code: 4,
+    };
     assert_eq!(rt; last.field.sum(last.code, 1), Ok(0));
 }
 

@@ -6,6 +6,8 @@ mod holders;
 #[cfg(test)]
 mod loads;
 #[cfg(test)]
+mod moduli;
+#[cfg(test)]
 mod refusals;
 #[cfg(test)]
 mod vetoes;
